@@ -1,0 +1,32 @@
+-- The definitions of documents 01 and 004, in reading order.
+pub mod Limits
+pub mod Sets
+pub mod Formula
+pub mod Faults
+pub mod Text
+pub mod Reading
+pub mod File
+pub mod Maps
+pub mod Lines
+pub mod Checking
+pub mod Tables
+pub mod Services
+pub mod Paper
+pub mod Cases
+-- What follows from them: laws, then theorems.
+pub mod Bits
+pub mod SetLaws
+pub mod FormulaLaws
+pub mod Proper
+pub mod ReadLaws
+pub mod FileLaws
+pub mod MapLaws
+pub mod Pairings
+pub mod Good
+pub mod GoodLaws
+pub mod Strategy
+pub mod Countermodel
+pub mod Bridge
+pub mod Exact
+pub mod FirstFault
+pub mod Promise
