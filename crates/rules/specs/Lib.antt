@@ -12,6 +12,7 @@ pub mod Checking
 pub mod Tables
 pub mod Services
 pub mod Paper
+pub mod Named
 pub mod Cases
 -- What follows from them: laws, then theorems.
 pub mod Bits
