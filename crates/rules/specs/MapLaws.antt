@@ -1,17 +1,19 @@
 -- Laws of maps: the walk by its nodes, which walks are alike, what is reached from a root, and nodes back from their words.
 use mathlib.Core.Path.{_≡_, refl, ap, sym, _∙_}
-use mathlib.Core.Bool.{Bool, true, false, cond, _&&_}
+use mathlib.Core.Bool.{Bool, true, false, cond, _&&_, _||_, or-true}
 use mathlib.Core.Logic.{_≢_, _⊎_, inl, inr}
 use Prim.Native.Nat.{ℕ, zero, suc, _+_, _-_, _*_, _/_, _%_, _≤_, _<_}
 use native.Mathlib.Omega.{arith}
 use lib.Dec.{eqb, leb, ltb}
-use borrow.Author.Tests.{ne-eqb, lt-ltb, le-leb, lt-leb, le-ltb, ltb-true, leb-true}
+use lib.ListN.{length}
+use borrow.Author.Tests.{eq-eqb, ne-eqb, lt-ltb, le-leb, lt-leb, le-ltb, ltb-true, leb-true}
 use Rattle.rules.specs.declared.Value.{Value}
 use Rattle.rules.specs.declared.Value.the-variants.{Star, One, Zero}
 use Rattle.rules.specs.declared.Node.{Node}
 use Rattle.rules.specs.declared.Node.the-variants.{None, Leaf, Branch}
-use Rattle.rules.specs.Limits.{variables-most, branch-mark, variable-step, end-step, set-words}
-use Rattle.rules.specs.Sets.{Set, none, with}
+use Rattle.rules.specs.Limits.{variables-most, branch-mark, variable-step, end-step, set-words, word-bits}
+use Rattle.rules.specs.Sets.{Set, none, has, with}
+use Rattle.rules.specs.SetLaws.{length-none, length-with, has-with}
 use Rattle.rules.specs.Formula.{Assignment}
 use Rattle.rules.specs.Maps.{node-word, node-of, branch-at, Column, Walk, reading, walk-node, walk-over, walk, value-of, plays, Reached}
 use Rattle.rules.specs.Maps.Walk.{ended, broken}
@@ -198,6 +200,81 @@ walk-ends T s r S = from (suc r) r (omega arith) root
         by false o = on a (rw o at (walk-branch T s i x a b e (f .0) (f .1))) (below a (f .0) (low h e))
 
     from : (f i : ℕ) → i < f → Reached T r i → Ends i
+    from zero i l h = absurd (omega arith)
+    from (suc f) i l h = node i (T i) refl h (λ k m g. from f k (omega arith) g)
+
+-- ---- what a walk reads decides it
+ended-inj : {v w : Value} {k l : ℕ} {S R : Set} → ended v k S ≡ ended w l R → (v ≡ w) × (k ≡ l) × (S ≡ R)
+ended-inj e = ((cc), (cc), (cc))
+
+broken≢ended : {v : Value} {k : ℕ} {S : Set} → broken ≡ ended v k S → ⊥
+broken≢ended e = let z : _≡_ {A = ℕ} 0 1 = cc in omega arith
+
+-- a walk that ends comes from a node that is a leaf, or a branch with both ends below it
+falls-where-ended : (T : Column) (s : Assignment) (i x a b : ℕ) (v : Value) (k : ℕ) (S : Set) → T i ≡ Branch x a b → walk T s i ≡ ended v k S → (a < i) × (b < i)
+falls-where-ended T s i x a b v k S e w = by (ltb a i) refl (ltb b i) refl
+  where
+    from : walk-node s (walk T s) i (Branch x a b) ≡ ended v k S
+    from = sym (ap (walk-node s (walk T s) i) e) ∙ sym (walk-at T s i) ∙ w
+
+    by : (p : Bool) → ltb a i ≡ p → (q : Bool) → ltb b i ≡ q → (a < i) × (b < i)
+    by true p true q = (ltb-true a i p, ltb-true b i q)
+    by true p false q = absurd (broken≢ended (rw (p, q, walk-node) at from))
+    by false p q g = absurd (broken≢ended (rw (p, walk-node) at from))
+
+-- an assignment that agrees with s on the set that the walk returns ends at the same leaf, with the same set
+pub walk-read : (T : Column) (s t : Assignment) (r : ℕ) (v : Value) (k : ℕ) (S : Set)
+    → ((i x a b : ℕ) → Reached T r i → T i ≡ Branch x a b → (1 ≤ x) × (x ≤ word-bits * set-words))
+    → walk T s r ≡ ended v k S → ((x : ℕ) → has S x ≡ true → s x ≡ t x) → walk T t r ≡ ended v k S
+walk-read T s t r v k S range e agree = from (suc r) r (omega arith) root v k S e .1 agree
+  where
+    -- the set has its words, and agreement on it gives the same end
+    Read : ℕ → Type 0
+    Read i = (v : Value) (k : ℕ) (S : Set) → walk T s i ≡ ended v k S
+        → (length S ≡ set-words) × (((x : ℕ) → has S x ≡ true → s x ≡ t x) → walk T t i ≡ ended v k S)
+
+    node : (i : ℕ) (n : Node) → T i ≡ n → Reached T r i → ((k : ℕ) → k < i → Reached T r k → Read k) → Read i
+    node i None g h below v k S e = absurd (broken≢ended (sym (walk-none T s i g) ∙ e))
+    node i (Leaf w) g h below v k S e =
+        let z = ended-inj (sym (walk-leaf T s i w g) ∙ e) in
+        (ap length (sym (z .2)) ∙ length-none set-words, λ _. walk-leaf T t i w g ∙ sym (walk-leaf T s i w g) ∙ e)
+    node i (Branch x a b) g h below v k S e = on (walk T s (cond (s x) b a)) refl (next (s x))
+      where
+        f : (a < i) × (b < i)
+        f = falls-where-ended T s i x a b v k S g e
+
+        next : (c : Bool) → Read (cond c b a)
+        next true = below b (f .1) (high h g)
+        next false = below a (f .0) (low h g)
+
+        on : (w : Walk) → walk T s (cond (s x) b a) ≡ w → Read (cond (s x) b a)
+            → (length S ≡ set-words) × (((x : ℕ) → has S x ≡ true → s x ≡ t x) → walk T t i ≡ ended v k S)
+        on broken o R = absurd (broken≢ended (sym (walk-branch T s i x a b g (f .0) (f .1) ∙ ap (reading x) o) ∙ e))
+        on (ended w l A) o R = (ap length (sym (z .2)) ∙ length-with A x ∙ R w l A o .0, same)
+          where
+            end : ended w l (with A x) ≡ ended v k S
+            end = sym (walk-branch T s i x a b g (f .0) (f .1) ∙ ap (reading x) o) ∙ e
+
+            z : (w ≡ v) × (l ≡ k) × (with A x ≡ S)
+            z = ended-inj end
+
+            words : length A ≡ set-words
+            words = R w l A o .0
+
+            member : (y : ℕ) → has S y ≡ (eqb y x || has A y)
+            member y = ap (λ (B : Set). has B y) (sym (z .2)) ∙ has-with A x y (range i x a b h g .0) (rw words (range i x a b h g .1))
+
+            same : ((y : ℕ) → has S y ≡ true → s y ≡ t y) → walk T t i ≡ ended v k S
+            same agree =
+                walk-branch T t i x a b g (f .0) (f .1)
+                ∙ ap (λ (c : Bool). reading x (walk T t (cond c b a))) (sym here)
+                ∙ ap (reading x) (R w l A o .1 (λ y m. agree y (member y ∙ rw (m, or-true))))
+                ∙ end
+              where
+                here : s x ≡ t x
+                here = agree x (member x ∙ rw (eq-eqb x x refl))
+
+    from : (f i : ℕ) → i < f → Reached T r i → Read i
     from zero i l h = absurd (omega arith)
     from (suc f) i l h = node i (T i) refl h (λ k m g. from f k (omega arith) g)
 
