@@ -13,7 +13,9 @@ pub mod Tables
 pub mod Services
 pub mod Paper
 pub mod Named
+pub mod Bytes
 pub mod Cases
+pub mod Apart
 -- What follows from them: laws, then theorems.
 pub mod Bits
 pub mod SetLaws
