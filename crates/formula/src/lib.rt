@@ -1,0 +1,3 @@
+// Formula text (01) to the prefix table and the clause table.
+pub mod tables;
+pub mod words;

@@ -1,0 +1,56 @@
+-- `words::skip` meets its contract: from each place of the loop the same place is reached.
+use mathlib.Core.Path.{_≡_, refl, sym, ap, _∙_}
+use mathlib.Core.Bool.{true, false, not}
+use Prim.Native.Nat.{ℕ, suc, _+_, _-_, _≤_, _<_}
+use native.Mathlib.Omega.{arith}
+use borrow.Author.Needs.{needs}
+use lib.ListN.{length, getD, drop, length-drop}
+use Rattle.rules.specs.Text.{separator, token-byte, lead}
+use Rattle.formula.proofs.TokenLaws.{lead-in, lead-out, lead-end}
+use Rattle.formula.proofs.words.skip.Statement.{statement}
+use Rattle.formula.proofs.words.skip.Tie as tie
+
+abbrev Inv-loop : tie.InvT-loop
+Inv-loop s from at₀ at = (at ≤ length s) × (at + lead separator (drop at s) ≡ from + lead separator (drop from s))
+
+abbrev μ-loop : tie.MeasureT-loop
+μ-loop s from at₀ at = length s - at
+
+loop-holds : tie.Need-loop-holds Inv-loop μ-loop
+loop-holds c = (omega arith, refl)
+
+shared-slice-read-is-separator : tie.Need-shared-slice-read-is-separator Inv-loop μ-loop
+shared-slice-read-is-separator c = omega arith
+
+is-separator-requires : tie.Need-is-separator-requires Inv-loop μ-loop
+is-separator-requires c κs = search needs
+
+returns : tie.Need-returns Inv-loop μ-loop
+returns c = (sym (lead-out separator _ _ (omega arith) (sym (c .before .is-separator .ensures) ∙ c .if1 .left)) ∙ c .before .before .before .before .loop .inv .1, omega arith)
+
+add-at : tie.Need-add-at Inv-loop μ-loop
+add-at c = omega arith
+
+loop-less : tie.Need-loop-less Inv-loop μ-loop
+loop-less c = omega arith
+
+loop-again : tie.Need-loop-again Inv-loop μ-loop
+loop-again c = (omega arith, lead-in separator _ _ (omega arith) (sym (c .before .is-separator .ensures) ∙ c .if1 .taken) ∙ c .before .before .before .before .loop .inv .1)
+
+returns-2 : tie.Need-returns-2 Inv-loop μ-loop
+returns-2 c = (sym (lead-end separator _ _ (omega arith)) ∙ c .before .loop .inv .1, omega arith)
+
+pub skip-spec : {M : Type 1} → statement M
+skip-spec =
+    tie.close
+    (tie.spec
+    Inv-loop
+    μ-loop
+    loop-holds
+    shared-slice-read-is-separator
+    is-separator-requires
+    add-at
+    loop-less
+    loop-again
+    returns
+    returns-2)
