@@ -11,7 +11,7 @@ use Rattle.rules.specs.declared.Played.{Played}
 use Rattle.rules.specs.Bytes.{text, hex}
 use Rattle.rules.specs.Services.{Lent, refusal, Answer, reading, checking, playing, table-column}
 use Rattle.rules.specs.Maps.{walk, walk-over}
-use Rattle.rules.specs.Cases.{lent, checks, leaves, reads, read-leaves, plays, G, proof-G, row-of, alone}
+use Rattle.rules.specs.Cases.{lent, prints, checks, leaves, reads, read-leaves, plays, G, proof-G, row-of, alone}
 
 -- ---- texts: the number and the offset of the reply
 pub record Text-case : Type 0 where
@@ -262,6 +262,16 @@ pub record Told-apart : Type 0 where
       ≡ record { number = 0; place = 0; variable = 0; variables = 3; clauses = 4; universals = 1; lines = 7 }
   pub nodes-16 : leaves (text example-16) (hex proof-16) .nodes ≡ alone 3 ++ (alone 2 ++ (alone 1073741825 ++ (alone 3 ++ (alone 2 ++ (alone 1073744900 ++ (alone 0 ++ (replicate 16272 0 ++ (9 ∷ []))))))))
   pub roots-16 : leaves (text example-16) (hex proof-16) .roots ≡ alone 1 ++ (alone 2 ++ (alone 3 ++ (alone 4 ++ (alone 5 ++ (alone 6 ++ (alone 3 ++ (replicate 16272 0 ++ (9 ∷ []))))))))
+  -- what is printed: nodes of two digits, a shared node once, refusals with zeros, a star
+  pub prints-15 : prints (text example-15) (hex proof-15)
+      ≡ text "accepted 12\nmap 4 root 12\n12 if 1 then 3 else 5\n5 if 2 then 4 else 3\n4 zero\n3 if 3 then 2 else 1\n2 one\n1 zero\n"
+  pub prints-missing : prints [] [] ≡ text "refused 3 0 0\n"
+  pub prints-no-proof : prints G [] ≡ text "refused 11 0 0\n"
+  pub prints-variable : prints G (hex "4D 52 50 01 00 03 00 01 01 00 00 00 00 00 00 01 02 00 00 00 00 00 00 02 01 00 02 00 01 00 00") ≡ text "refused 31 3 2\n"
+  pub prints-star : prints (text "p cnf 1 1 a 1 0 0") (hex "4D 52 50 01 00 01 00 01 01 00 00 00 00 00 00") ≡ text "accepted 1\nmap 1 root 1\n1 star\n"
+  pub prints-two-maps : prints (text wide) (hex wide-proof) ≡ text "accepted 3\nmap 63 root 3\n3 if 64 then 2 else 1\n2 one\n1 zero\nmap 1 root 3\n3 if 64 then 2 else 1\n2 zero\n1 star\n"
+  pub prints-long : prints (replicate 65537 32) [] ≡ text "refused 1 0 0\n"
+  pub prints-place : prints (replicate 12345 32) [] ≡ text "refused 3 12345 0\n"
   -- stars
   pub over-stars : checks (text stars) (hex "4D 52 50 01 00 07 00 01 01 00 00 00 00 00 00 01 02 00 00 00 00 00 00 02 01 00 02 00 01 01 00 01 03 00 00 00 00 00 00 01 04 00 00 00 00 00 00 02 04 00 05 00 04 00 00 02 03 00 06 00 03 00 00") .reply ≡ refusal 31 7 2
   pub kept-stars : row-of 16 3 (leaves (text stars) (hex "4D 52 50 01 00 07 00 01 01 00 00 00 00 00 00 01 02 00 00 00 00 00 00 02 01 00 02 00 01 00 00 01 03 00 00 00 00 00 00 01 04 00 00 00 00 00 00 02 04 00 05 00 04 00 00 02 03 00 06 00 03 00 00") .roots) ≡ alone 2
@@ -310,7 +320,7 @@ pub record Told-apart : Type 0 where
   pub play-longer : playing-of 1 1 16385 ≡ value 1
 
 pub told-apart : Told-apart
-unfolding texts all-read proofs all-checked reads read-leaves leaves checks plays plays-second playing-of G reading checking
+unfolding prints texts all-read proofs all-checked reads read-leaves leaves checks plays plays-second playing-of G reading checking
 told-apart = record {
   texts = refl;
   proofs = refl;
@@ -330,6 +340,14 @@ told-apart = record {
   accepted-16 = refl;
   nodes-16 = refl;
   roots-16 = refl;
+  prints-15 = refl;
+  prints-missing = refl;
+  prints-no-proof = refl;
+  prints-variable = refl;
+  prints-star = refl;
+  prints-two-maps = refl;
+  prints-long = refl;
+  prints-place = refl;
   over-stars = refl;
   kept-stars = refl;
   kept-zero = refl;

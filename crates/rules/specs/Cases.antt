@@ -24,6 +24,7 @@ use Rattle.rules.specs.Checking.{lines-from, all-lines, checked-by}
 use Rattle.rules.specs.Tables.{padded, rows-of, holding}
 use Rattle.rules.specs.Services.{Lent, refusal, Answer, checking, reading, after, table-column, playing}
 use Rattle.rules.specs.Bytes.{text, hex}
+use Rattle.rules.specs.Report.{digits-before, decimal, reached-from, nodes-falling, joined, map-lines, refused-line, accepted-text, printed}
 
 -- ---- running the definitions
 -- tables that come with some content, and one word past each minimum
@@ -52,6 +53,11 @@ read-leaves t = after (reads t .leaves) lent
 unfoldable pub plays : ℕ → List ℕ → ℕ → Played
 unfolding leaves walk-over walk table-column playing
 plays r nodes settings = playing 1 r nodes (settings ∷ [])
+
+-- what the bench program prints
+unfoldable pub prints : List ℕ → List ℕ → List ℕ
+unfolding checks digits-before decimal reached-from nodes-falling joined map-lines refused-line accepted-text printed
+prints t p = printed t p
 
 -- ---- the game G
 unfoldable pub G : List ℕ
@@ -112,6 +118,8 @@ pub record Worked : Type 0 where
   pub line-4 : row-of 16 4 (leaves G proof-G .nodes) ≡ alone 1073741825
   pub nodes : leaves G proof-G .nodes ≡ alone 3 ++ (alone 2 ++ (alone 1 ++ (alone 1073741825 ++ (replicate 16320 0 ++ (9 ∷ [])))))
   pub roots : leaves G proof-G .roots ≡ alone 1 ++ (alone 2 ++ (alone 3 ++ (alone 4 ++ (alone 4 ++ (replicate 16304 0 ++ (9 ∷ []))))))
+  -- the bench prints, whole
+  pub bench : prints G proof-G ≡ text "accepted 5\nmap 2 root 4\n4 if 1 then 2 else 1\n2 one\n1 zero\n"
   -- line 4 merge set 0, and set 2
   pub set-0 : checks G (proof-with "02 01 00 02 00 01 00 00" "02 04 00 03 00 03 00 00") .reply ≡ refusal 31 4 2
   pub set-2 : checks G (proof-with "02 01 00 02 00 01 02 00" "02 04 00 03 00 03 00 00") .reply ≡ refusal 28 4 0
@@ -140,7 +148,7 @@ pub record Worked : Type 0 where
       (hex "4D 52 50 01 00 03 00 01 01 00 00 00 00 00 00 01 02 00 00 00 00 00 00 02 01 00 02 00 01 00 00") .reply ≡ refusal 29 3 0
 
 pub worked : Worked
-unfolding checks leaves plays G proof-with proof-G four-lines twice-against-two isomorphic pass visit pair compare
+unfolding checks leaves plays prints G proof-with proof-G four-lines twice-against-two isomorphic pass visit pair compare
 worked = record {
   accepted = refl;
   prefix = refl;
@@ -149,6 +157,7 @@ worked = record {
   line-4 = refl;
   nodes = refl;
   roots = refl;
+  bench = refl;
   set-0 = refl;
   set-2 = refl;
   set-1 = refl;

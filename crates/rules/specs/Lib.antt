@@ -14,6 +14,7 @@ pub mod Services
 pub mod Paper
 pub mod Named
 pub mod Bytes
+pub mod Report
 pub mod Cases
 pub mod Apart
 -- What follows from them: laws, then theorems.
