@@ -26,6 +26,7 @@ pub mod ReadLaws
 pub mod FileLaws
 pub mod MapLaws
 pub mod Pairings
+pub mod Listed
 pub mod Good
 pub mod GoodLaws
 pub mod Strategy
