@@ -1,3 +1,4 @@
 -- Laws that the functions' proofs cite.
 pub mod TokenLaws
+pub mod NumberLaws
 pub mod HoldingLaws

@@ -1,3 +1,5 @@
 // Formula text (01) to the prefix table and the clause table.
+mod limits;
+pub mod numbers;
 pub mod tables;
 pub mod words;

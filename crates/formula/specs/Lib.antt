@@ -1,0 +1,2 @@
+-- What the code's types say in the words of the definitions.
+pub mod Numbers

@@ -1,0 +1,20 @@
+-- A token's answer and a literal, from the number that the token spells (01, Formula text).
+use mathlib.Core.Bool.{Bool, true, false}
+use Prim.Native.Nat.{ℕ, suc}
+use lib.IntN.{ℤ, pos, negsuc}
+use Rattle.rules.specs.Limits.{bad-token}
+use Rattle.rules.specs.Text.{Number}
+use Rattle.rules.specs.Text.Number.{number, no-number}
+use Rattle.formula.specs.declared.numbers.Token.{Token}
+use Rattle.formula.specs.declared.numbers.Token.the-variants as T
+use Rattle.formula.specs.declared.numbers.Literal.{Literal}
+
+-- the number, or 3 with the token's offset
+abbrev pub token-of : Number → ℕ → Token
+token-of (number z) at = T.Number z
+token-of no-number at = T.Refused bad-token at
+
+-- a literal is a signed number: minus for negated
+abbrev pub literal-of : ℤ → Literal
+literal-of (pos n) = record { variable = n; negated = false }
+literal-of (negsuc n) = record { variable = suc n; negated = true }
