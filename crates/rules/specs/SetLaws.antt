@@ -3,17 +3,17 @@ use mathlib.Core.Path.{_≡_, refl, sym, ap, ap₂, _∙_}
 use mathlib.Core.Bool.{Bool, true, false, not, _&&_, _||_, true≢false, false≢true, or-comm, or-true, and-true}
 use mathlib.Core.List.{[], _∷_}
 use mathlib.Core.Logic.{_≢_, _⊎_, inl, inr, by-cases}
-use Prim.Native.Nat.{ℕ, zero, suc, _-_, _*_, _/_, _%_, _^_, _≤_, _<_}
+use Prim.Native.Nat.{ℕ, zero, suc, _+_, _-_, _*_, _/_, _%_, _^_, _≤_, _<_}
 use native.Mathlib.Decide.{ℕ-discrete, decLe}
 use native.Mathlib.Omega.{arith}
-use lib.Dec.{eqb, eqb·zero-suc}
+use lib.Dec.{eqb, eqb·zero-suc, lit<}
 use lib.Bits.{bitAnd, bitOr, or-zero-r, and-zero-r}
 use lib.ListN.{length, getD, set, replicate, length-set, length-replicate, List·getD-eq-default}
 use lib.Pow.{pow-lt}
 use lib.Seq.{getD-set-same, getD-set-other}
 use borrow.Author.Tests.{eq-eqb, ne-eqb, not-true, not-false}
 use Rattle.rules.specs.Limits.{word-bits}
-use Rattle.rules.specs.Bits.{bit, bit-or, bit-and, bit-not, bit-one, bit-zero}
+use Rattle.rules.specs.Bits.{bit, bit-or, bit-and, bit-not, bit-one, bit-zero, bit-ext}
 use Rattle.rules.specs.Sets.{Set, none, has, with, without, join, only, some, empty, meet}
 
 -- ---- both tests pass, or one of two
@@ -257,3 +257,33 @@ has-meet s t f = go (meet s t) refl
     go : (b : Bool) → meet s t ≡ b → meet s t ≡ false
     go true e = let r = meet-member s t e in absurd (f (r .0) (r .1) (r .2))
     go false e = e
+
+-- sets meet where what is in both is not empty
+pub meet-only : (s t : Set) → meet s t ≡ not (empty (only s t))
+meet-only s t = go (empty (only s t)) refl
+  where
+    go : (b : Bool) → empty (only s t) ≡ b → meet s t ≡ not (empty (only s t))
+    go true e =
+        rw e (has-meet s t (λ v p q. true≢false (sym (rw (has-only s t v, p, q)) ∙ empty-has (only s t) e v)))
+    go false e =
+        let r = member (only s t) e in
+        let both : (has s (r .0) && has t (r .0)) ≡ true = sym (has-only s t (r .0)) ∙ r .1 in
+        rw e (member-meet s t (r .0) (and-left (has s (r .0)) (has t (r .0)) both) (and-right (has s (r .0)) (has t (r .0)) both))
+
+-- ---- words: a set whose words are all 0 is empty, and an empty set of words of 64 bits has no other
+pub zeros-empty : (s : Set) → ((i : ℕ) → getD s i 0 ≡ 0) → empty s ≡ true
+unfolding has
+zeros-empty s h = has-empty s no
+  where
+    no : (v : ℕ) → has s v ≡ false
+    no zero = refl
+    no (suc k) = rw (h (k / word-bits)) (bit-zero (k % word-bits))
+
+pub empty-zeros : (s : Set) → ((i : ℕ) → getD s i 0 < 2 ^ word-bits) → empty s ≡ true → (i : ℕ) → getD s i 0 ≡ 0
+empty-zeros s w h i = bit-ext word-bits (getD s i 0) 0 (w i) (lit< tt) same
+  where
+    same : (k : ℕ) → k < word-bits → bit (getD s i 0) k ≡ bit 0 k
+    same k l =
+        let q : (word-bits * i + k) / word-bits ≡ i = omega arith in
+        let r : (word-bits * i + k) % word-bits ≡ k = omega arith in
+        (rw (q, r) at (has-at s (word-bits * i + k) (word-bits * i + k) refl ∙ empty-has s h (suc (word-bits * i + k)))) ∙ sym (bit-zero k)
