@@ -1,7 +1,7 @@
 -- Laws of maps: the walk by its nodes, which walks are alike, what is reached from a root, and nodes back from their words.
 use mathlib.Core.Path.{_≡_, refl, ap, sym, _∙_}
 use mathlib.Core.Bool.{Bool, true, false, cond, _&&_, _||_, or-true}
-use mathlib.Core.Logic.{_≢_, _⊎_, inl, inr}
+use mathlib.Core.Logic.{_≢_}
 use Prim.Native.Nat.{ℕ, zero, suc, _+_, _-_, _*_, _/_, _%_, _≤_, _<_}
 use native.Mathlib.Omega.{arith}
 use lib.Dec.{eqb, leb, ltb}
@@ -15,7 +15,7 @@ use Rattle.rules.specs.Limits.{variables-most, branch-mark, variable-ste
 use Rattle.rules.specs.Sets.{Set, none, has, with}
 use Rattle.rules.specs.SetLaws.{length-none, length-with, has-with}
 use Rattle.rules.specs.Formula.{Assignment}
-use Rattle.rules.specs.Maps.{node-word, node-of, branch-at, Column, Walk, reading, walk-node, walk-over, walk, value-of, plays, Reached}
+use Rattle.rules.specs.Maps.{node-word, node-of, branch-at, Column, Walk, reading, walk-node, walk-over, walk, value-of, plays, Reached, star?}
 use Rattle.rules.specs.Maps.Walk.{ended, broken}
 use Rattle.rules.specs.Maps.Reached.{root, low, high}
 
@@ -309,11 +309,9 @@ node-word-fits (Leaf Zero) h = omega arith
 node-word-fits (Branch x a b) h = omega arith
 
 -- the words that are none of star, one and zero: below the branches, a branch, past the branches
-pub node-of-low : (w : ℕ) → (w ≡ 0) ⊎ (3 < w) → w < branch-mark → node-of w ≡ None
+pub node-of-low : (w : ℕ) → w ≢ 1 → w ≢ 2 → w ≢ 3 → w < branch-mark → node-of w ≡ None
 unfolding node-of
-node-of-low w (inl z) h = rw z
-node-of-low w (inr l) h =
-    rw (ne-eqb w 1 (λ z. omega arith), ne-eqb w 2 (λ z. omega arith), ne-eqb w 3 (λ z. omega arith), lt-leb branch-mark w h, node-of)
+node-of-low w n₁ n₂ n₃ h = rw (ne-eqb w 1 n₁, ne-eqb w 2 n₂, ne-eqb w 3 n₃, lt-leb branch-mark w h, node-of)
 
 pub node-of-branch : (w : ℕ) → branch-mark ≤ w → w < branch-mark + variables-most * variable-step → node-of w ≡ branch-at (w - branch-mark)
 unfolding node-of
@@ -369,3 +367,16 @@ node-of-range w = by (eqb w 1) refl (eqb w 2) refl (eqb w 3) refl (leb branch-ma
         let z : w < branch-mark + variables-most * variable-step = ltb-true _ _ u in
         let y : branch-mark ≤ w = leb-true _ _ l in
         rw (p, q, o, l, u, node-of) (omega arith)
+
+-- one star leaf is the word 1
+pub star-word : (w : ℕ) → star? (node-of w) ≡ eqb w 1
+unfolding node-of
+star-word w = by (eqb w 1) refl (eqb w 2) refl (eqb w 3) refl (leb branch-mark w && ltb w (branch-mark + variables-most * variable-step)) refl
+  where
+    by : (p : Bool) → eqb w 1 ≡ p → (q : Bool) → eqb w 2 ≡ q → (o : Bool) → eqb w 3 ≡ o
+        → (l : Bool) → (leb branch-mark w && ltb w (branch-mark + variables-most * variable-step)) ≡ l → star? (node-of w) ≡ eqb w 1
+    by true p q e o f l g = rw (p, node-of)
+    by false p true q o f l g = rw (p, q, node-of)
+    by false p false q true o l g = rw (p, q, o, node-of)
+    by false p false q false o false l = rw (p, q, o, l, node-of)
+    by false p false q false o true l = rw (p, q, o, l, node-of)
