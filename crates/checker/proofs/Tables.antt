@@ -93,14 +93,14 @@ module _ (n : ℕ) (ws lent : List ℕ) where
       let q : b ≡ length ws + length r = omega arith in
       let m : n - length ws ≡ length r + (n - length (ws ++ r)) = omega arith in
       let z : zeros (n - length ws) ≡ zeros (length r) ++ zeros (n - length (ws ++ r))
-            = ap (λ (i : ℕ). zeros i) m ∙ sym (replicate-append-replicate (length r) (n - length (ws ++ r)) 0) in
+      = ap (λ (i : ℕ). zeros i) m ∙ sym (replicate-append-replicate (length r) (n - length (ws ++ r)) 0) in
       let d : drop b (holding n ws lent) ≡ zeros (n - length (ws ++ r)) ++ rest
-            = ap (drop b) flat
-              ∙ ap (λ (i : ℕ). drop i (ws ++ (zeros (n - length ws) ++ rest))) q
-              ∙ drop-append-add ws (zeros (n - length ws) ++ rest) (length r)
-              ∙ ap (λ (l : List ℕ). drop (length r) (l ++ rest)) z
-              ∙ ap (drop (length r)) (append-assoc (zeros (length r)) (zeros (n - length (ws ++ r))) rest)
-              ∙ drop-at (zeros (length r)) (zeros (n - length (ws ++ r)) ++ rest) (length r) (zeros-length (length r)) in
+      = ap (drop b) flat
+      ∙ ap (λ (i : ℕ). drop i (ws ++ (zeros (n - length ws) ++ rest))) q
+      ∙ drop-append-add ws (zeros (n - length ws) ++ rest) (length r)
+      ∙ ap (λ (l : List ℕ). drop (length r) (l ++ rest)) z
+      ∙ ap (drop (length r)) (append-assoc (zeros (length r)) (zeros (n - length (ws ++ r))) rest)
+      ∙ drop-at (zeros (length r)) (zeros (n - length (ws ++ r)) ++ rest) (length r) (zeros-length (length r)) in
       rw (t, d) (sym (append-assoc ws r (zeros (n - length (ws ++ r)) ++ rest)) ∙ sym (append-assoc (ws ++ r) (zeros (n - length (ws ++ r))) rest))
 
 -- the part from a to b of a table, lent and come back as r

@@ -171,9 +171,10 @@ abbrev pub Follows : Rules → Formula → List Row → ℕ → Line → Row →
 Follows R F rows i (L.Axiom c) row = ((1 ≤ c) × (c ≤ length (F .matrix))) × (row ≡ axiom-row F i c)
 Follows R F rows i (L.Resolve r) row = Resolves R F rows i r × (row ≡ resolution-row R F rows i r (in-set (r .merge)))
 
-or-false : (a b : Bool) → (a || b) ≡ false → (a ≡ false) × (b ≡ false)
-or-false true b h = absurd (true≢false h)
-or-false false b h = (refl, h)
+-- where neither test holds
+pub neither : (a b : Bool) → (a || b) ≡ false → (a ≡ false) × (b ≡ false)
+neither true b h = absurd (true≢false h)
+neither false b h = (refl, h)
 
 -- a line before line i
 pub earlier-iff : (i a : ℕ) → (earlier i a ≡ true) ↔ ((1 ≤ a) × (a < i))
@@ -187,7 +188,7 @@ unfolding first-of
 axiom-passes F c = (to, λ p. rw (le-ltb c 1 (p .0), le-ltb (length (F .matrix)) c (p .1)))
   where
     to : first-of (axiom-faults F c) ≡ passes → (1 ≤ c) × (c ≤ length (F .matrix))
-    to h = let p = or-false (ltb c 1) (ltb (length (F .matrix)) c) (passes-cons _ [] .0 h .0) in (ltb-false c 1 (p .0), ltb-false (length (F .matrix)) c (p .1))
+    to h = let p = neither (ltb c 1) (ltb (length (F .matrix)) c) (passes-cons _ [] .0 h .0) in (ltb-false c 1 (p .0), ltb-false (length (F .matrix)) c (p .1))
 
 four-pass : (f g h k : Fault) → first-of (f ∷ g ∷ h ∷ k ∷ []) ≡ passes → (f .when ≡ false) × (g .when ≡ false) × (h .when ≡ false) × (k .when ≡ false)
 four-pass f g h k e =
@@ -199,7 +200,7 @@ four-pass f g h k e =
 passed-parents : (F : Formula) (rows : List Row) (i : ℕ) (r : Resolution) → first-of (parent-faults F rows i r) ≡ passes → Parents-follow F rows i r
 passed-parents F rows i r h =
     let p = four-pass _ _ _ _ h in
-    let e = or-false (not (earlier i (r .a))) (not (earlier i (r .b))) (p .0) in
+    let e = neither (not (earlier i (r .a))) (not (earlier i (r .b))) (p .0) in
     record {
       a-earlier = earlier-iff i (r .a) .0 (not-false (earlier i (r .a)) (e .0));
       b-earlier = earlier-iff i (r .b) .0 (not-false (earlier i (r .b)) (e .1));
