@@ -3,14 +3,14 @@ use mathlib.Core.Path.{_≡_, refl, sym, ap, _∙_}
 use mathlib.Core.Bool.{Bool, true, false, cond, not, _&&_, _||_, true≢false}
 use mathlib.Core.List.{List, [], _∷_, _++_, List·Memᴰ, List·Memᴰ·append-cases, List·Memᴰ·eq-of-singleton, List·Memᴰ·not-nil}
 use mathlib.Core.Logic.{_⊎_, inl, inr, by-cases}
-use Prim.Native.Nat.{ℕ, zero, suc, _≤_, _<_}
+use Prim.Native.Nat.{ℕ, zero, suc, _+_, _-_, _*_, _≤_, _<_, min}
 use native.Mathlib.Decide.{decLt}
 use native.Mathlib.Omega.{arith}
 use lib.Dec.{eqb, leb, ltb}
-use lib.IntN.{pos, negsuc}
+use lib.IntN.{ℤ, pos, negsuc, negℤ}
 use lib.ListN.{length, length-append}
-use borrow.Author.Tests.{eqb-true, ltb-false, leb-false, not-false, not-true}
-use Rattle.rules.specs.Limits.{variables-most, universals-most, clauses-most, set-words, bad-token, header-limit, no-variable, bound-twice, too-many-universals, not-bound, both-ways, clause-count}
+use borrow.Author.Tests.{eqb-true, ltb-true, ltb-false, leb-true, leb-false, not-false, not-true, lt-ltb, le-ltb, le-leb}
+use Rattle.rules.specs.Limits.{variables-most, universals-most, clauses-most, number-most, set-words, bad-token, header-limit, no-variable, bound-twice, too-many-universals, not-bound, both-ways, clause-count}
 use Rattle.rules.specs.Faults.{Fault, fault, Found, first-of}
 use Rattle.rules.specs.Faults.Found.{passes, fails}
 use Rattle.rules.specs.Sets.{has}
@@ -20,7 +20,7 @@ use Rattle.rules.specs.Formula.Quant.{exists, forall}
 use Rattle.rules.specs.FormulaLaws.{Worded, no-literal-words, with-literal-words, has-literal-plain, has-literal-negated, fits, bound-snoc, universals-snoc-exists, universals-snoc-forall, length-snoc, var-at-snoc, var-at-last, distinct-snoc}
 use Rattle.rules.specs.GoodLaws.{passes-cons}
 use Rattle.rules.specs.Proper.{var-at, Proper}
-use Rattle.rules.specs.Text.{Token, uncommented, spelled, Number, number-of}
+use Rattle.rules.specs.Text.{Token, uncommented, spelled, Number, digit, grown, sized, counting, number-of}
 use Rattle.rules.specs.Text.Number.{number, no-number}
 use Rattle.rules.specs.Reading.{Place, State, begin, moved, Next, unless, word-p, word-cnf, word-a, word-e, limited, with-variables, with-count, bind, full, block-token, clause-ended, literal-token, clause-token, complete, begin-clause, block-place, step-at, step, formula-of, Reading, between-clauses, end-at, read-from, tokens-of, read}
 use Rattle.rules.specs.Reading.Place.{at-mark, at-cnf, at-variables, at-count, at-block, in-block, at-clause, in-clause}
@@ -362,3 +362,68 @@ unfolding read
 read-proper text F e =
     read-from-proper (length text) begin (tokens-of (uncommented false text 0)) F
     (record { proper = proper-none 0 (omega arith); counted = omega arith; count = omega arith }) (record { blocks = refl; clauses = refl }) e
+
+-- ---- numbers: a token gives the value of its digits, cut at number-most, and no limit tells the two apart
+-- the value of the digits l after digits of value n
+unfoldable pub value-from : ℕ → List ℕ → ℕ
+value-from n [] = n
+value-from n (b ∷ l) = value-from (n * 10 + (b - 48)) l
+
+-- all are digits
+unfoldable pub digits : List ℕ → Bool
+digits [] = true
+digits (b ∷ l) = digit b && digits l
+
+abbrev pub signed : Bool → ℕ → ℤ
+signed negated n = cond negated (negℤ (pos n)) (pos n)
+
+pub grown-min : (n b : ℕ) → grown (min n number-most) b ≡ min (n * 10 + (b - 48)) number-most
+unfolding grown
+grown-min n b = split (leb number-most (min n number-most * 10 + (b - 48))) refl
+  where
+    split : (t : Bool) → leb number-most (min n number-most * 10 + (b - 48)) ≡ t
+        → cond t number-most (min n number-most * 10 + (b - 48)) ≡ min (n * 10 + (b - 48)) number-most
+    split true e = omega (arith, leb-true number-most (min n number-most * 10 + (b - 48)) e)
+    split false e = omega (arith, leb-false number-most (min n number-most * 10 + (b - 48)) e)
+
+sized-on : (negated : Bool) (n b : ℕ) (l : List ℕ) → digit b ≡ true → sized negated n (b ∷ l) ≡ sized negated (grown n b) l
+unfolding sized
+sized-on negated n b l e = rw (e, sized)
+
+sized-off : (negated : Bool) (n b : ℕ) (l : List ℕ) → digit b ≡ false → sized negated n (b ∷ l) ≡ no-number
+unfolding sized
+sized-off negated n b l e = rw (e, sized)
+
+pub sized-value : (negated : Bool) (n : ℕ) (l : List ℕ) → digits l ≡ true
+    → sized negated (min n number-most) l ≡ number (signed negated (min (value-from n l) number-most))
+unfolding sized value-from digits
+sized-value negated n [] h = refl
+sized-value negated n (b ∷ l) h =
+    sized-on negated (min n number-most) b l (and-left (digit b) (digits l) h)
+    ∙ ap (λ (m : ℕ). sized negated m l) (grown-min n b)
+    ∙ sized-value negated (n * 10 + (b - 48)) l (and-right (digit b) (digits l) h)
+
+-- a byte that is no digit spoils the number
+pub sized-no : (negated : Bool) (n : ℕ) (l : List ℕ) → digits l ≡ false → sized negated n l ≡ no-number
+unfolding digits
+sized-no negated n [] h = absurd (true≢false h)
+sized-no negated n (b ∷ l) h = split (digit b) refl (λ e. sized-no negated (grown n b) l e)
+  where
+    split : (t : Bool) → digit b ≡ t → (digits l ≡ false → sized negated (grown n b) l ≡ no-number) → sized negated n (b ∷ l) ≡ no-number
+    split true e rest = sized-on negated n b l e ∙ rest (rw e at h)
+    split false e rest = sized-off negated n b l e
+
+pub counting-value : (negated : Bool) (b : ℕ) (l : List ℕ) → 49 ≤ b → b ≤ 57 → digits l ≡ true
+    → counting negated (b ∷ l) ≡ number (signed negated (min (value-from (b - 48) l) number-most))
+unfolding counting
+counting-value negated b l lo hi h =
+    let small : b - 48 ≡ min (b - 48) number-most = omega arith in
+    rw (le-leb 49 b lo, le-leb b 57 hi, counting) (ap (λ (m : ℕ). sized negated m l) small ∙ sized-value negated (b - 48) l h)
+
+-- a number is past a limit where its cut is
+pub past-limit : (limit n : ℕ) → limit < number-most → ltb limit (min n number-most) ≡ ltb limit n
+past-limit limit n h = split (ltb limit n) refl
+  where
+    split : (t : Bool) → ltb limit n ≡ t → ltb limit (min n number-most) ≡ ltb limit n
+    split true e = lt-ltb limit (min n number-most) (omega (arith, ltb-true limit n e)) ∙ sym e
+    split false e = le-ltb limit (min n number-most) (omega (arith, ltb-false limit n e)) ∙ sym e
