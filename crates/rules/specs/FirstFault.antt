@@ -1,9 +1,9 @@
 -- Which refusal is given: that of the first broken rule in the listed order, at its place, where all that comes before passes.
 use mathlib.Core.Path.{_≡_, refl, ap, sym, _∙_, subst}
-use mathlib.Core.Bool.{Bool, true, false, not, _||_, true≢false, false≢true}
+use mathlib.Core.Bool.{Bool, true, false, not, _||_}
 use mathlib.Core.List.{List, [], _∷_, _++_, append-nil, List·Memᴰ, List·Memᴰ·head, List·Memᴰ·tail, List·Memᴰ·cases-cons, List·Memᴰ·not-nil}
 use mathlib.Core.Logic.{_⊎_, inl, inr, _↔_}
-use Prim.Native.Nat.{ℕ, zero, suc, _+_, _*_}
+use Prim.Native.Nat.{ℕ, suc, _+_, _*_}
 use native.Mathlib.Omega.{arith}
 use lib.Dec.{eqb, ltb}
 use lib.ListN.{length, take}
@@ -21,7 +21,7 @@ use Rattle.rules.specs.Reading.Reading.{unread, formula}
 use Rattle.rules.specs.File.{Form, merge-proof, pair-at, announced, head-fault, records, decoded}
 use Rattle.rules.specs.Lines.{Row, Rules, house, Made, unless-found, line-faults, line-row, line-made, decoded-made, next-line}
 use Rattle.rules.specs.Lines.Made.{made, refused}
-use Rattle.rules.specs.Checking.{Passed, lines-from, all-lines, last-empty, Checked, refutation, when-passed, proof-lines, proof-checked, checked-by, checked}
+use Rattle.rules.specs.Checking.{Passed, lines-from, all-lines, last-empty, Checked, refutation, when-passed, proof-checked, checked-by, checked}
 use Rattle.rules.specs.Checking.Passed.{passed, stopped}
 use Rattle.rules.specs.Checking.Checked.{rejected, accepted}
 use Rattle.rules.specs.GoodLaws.{fails≢passes, refused≢made, all-derived}

@@ -32,6 +32,7 @@ pub mod GoodLaws
 pub mod Strategy
 pub mod Countermodel
 pub mod Bridge
+pub mod Held
 pub mod Exact
 pub mod FirstFault
 pub mod Promise
