@@ -1,9 +1,9 @@
 -- Prefixes by their places, and clauses by their members: what the definitions of Formula say of each.
 use mathlib.Core.Path.{_≡_, refl, sym, ap, _∙_}
-use mathlib.Core.Bool.{Bool, true, false, not, _&&_, _||_, true≢false, false≢true, or-assoc, or-false, or-true}
+use mathlib.Core.Bool.{Bool, true, false, cond, not, _&&_, _||_, true≢false, false≢true, or-assoc, or-false, or-true}
 use mathlib.Core.List.{List, [], _∷_, _++_, append-nil}
-use mathlib.Core.Logic.{_⊎_, inl, inr, by-cases}
-use Prim.Native.Nat.{ℕ, zero, suc, _*_, _≤_, _<_}
+use mathlib.Core.Logic.{_≢_, _⊎_, inl, inr, by-cases}
+use Prim.Native.Nat.{ℕ, zero, suc, _-_, _*_, _≤_, _<_}
 use native.Mathlib.Decide.{ℕ-discrete, decLt}
 use native.Mathlib.Omega.{arith}
 use lib.Dec.{eqb}
@@ -436,3 +436,50 @@ clause-member c h = go (empty (c .plain)) refl
     go : (b : Bool) → empty (c .plain) ≡ b → (v : ℕ) × ((has (c .plain) v ≡ true) ⊎ (has (c .negated) v ≡ true))
     go true e = let r = member (c .negated) (rw e at h) in (r .0, inr (r .1))
     go false e = let r = member (c .plain) e in (r .0, inl (r .1))
+
+-- ---- m different numbers below n: m is at most n
+abbrev Below : ℕ → ℕ → (ℕ → ℕ) → Type 0
+Below m n f = (i : ℕ) → i < m → f i < n
+
+abbrev Differ : ℕ → (ℕ → ℕ) → Type 0
+Differ m f = (i j : ℕ) → i < m → j < m → f i ≡ f j → i ≡ j
+
+-- the last value taken out: what stands at n takes its place
+abbrev closed-up : (ℕ → ℕ) → ℕ → ℕ → ℕ → ℕ
+closed-up f k n i = cond (eqb (f i) n) (f k) (f i)
+
+closed-cases : (f : ℕ → ℕ) (k n i : ℕ) → ((f i ≡ n) × (closed-up f k n i ≡ f k)) ⊎ ((f i ≢ n) × (closed-up f k n i ≡ f i))
+closed-cases f k n i = by-cases (ℕ-discrete (f i) n) (λ e. inl (e, rw (eq-eqb (f i) n e))) (λ e. inr (e, rw (ne-eqb (f i) n e)))
+
+pub pigeonhole : (m n : ℕ) (f : ℕ → ℕ) → Below m n f → Differ m f → m ≤ n
+pigeonhole zero n f b d = omega arith
+pigeonhole (suc k) zero f b d = absurd (omega (arith, b k (omega arith)))
+pigeonhole (suc k) (suc n) f b d = omega (arith, pigeonhole k n (closed-up f k n) below differ)
+  where
+    other : (i : ℕ) → i < k → f i ≡ f k → ⊥
+    other i h e = omega (arith, d i k (omega arith) (omega arith) e)
+
+    below : Below k n (closed-up f k n)
+    below i h = split (closed-cases f k n i)
+      where
+        split : ((f i ≡ n) × (closed-up f k n i ≡ f k)) ⊎ ((f i ≢ n) × (closed-up f k n i ≡ f i)) → closed-up f k n i < n
+        split (inl p) = let apart : f k ≢ n = λ q. other i h (p .0 ∙ sym q) in rw (p .1) (omega (arith, b k (omega arith), apart))
+        split (inr p) = rw (p .1) (omega (arith, b i (omega arith), p .0))
+
+    differ : Differ k (closed-up f k n)
+    differ i j hi hj e = split (closed-cases f k n i) (closed-cases f k n j)
+      where
+        split : ((f i ≡ n) × (closed-up f k n i ≡ f k)) ⊎ ((f i ≢ n) × (closed-up f k n i ≡ f i))
+            → ((f j ≡ n) × (closed-up f k n j ≡ f k)) ⊎ ((f j ≢ n) × (closed-up f k n j ≡ f j)) → i ≡ j
+        split (inl p) (inl q) = d i j (omega arith) (omega arith) (p .0 ∙ sym (q .0))
+        split (inl p) (inr q) = absurd (other j hj (sym (q .1) ∙ sym e ∙ p .1))
+        split (inr p) (inl q) = absurd (other i hi (sym (p .1) ∙ e ∙ q .1))
+        split (inr p) (inr q) = d i j (omega arith) (omega arith) (sym (p .1) ∙ e ∙ q .1)
+
+-- a prefix of different variables 1 to n has at most n places
+pub prefix-length : (Q : List Bound) (n : ℕ) → Distinct Q → ((i : ℕ) → i < length Q → (1 ≤ var-at Q i) × (var-at Q i ≤ n)) → length Q ≤ n
+prefix-length Q n d r =
+    pigeonhole (length Q) n (λ i. var-at Q i - 1) (λ i h. omega (arith, r i h)) (λ i j hi hj e. d i j hi hj (omega (arith, r i hi, r j hj)))
+
+pub proper-length : (F : Formula) → Proper F → length (F .prefix) ≤ F .variables
+proper-length F p = prefix-length (F .prefix) (F .variables) (p .distinct) (p .in-range)
