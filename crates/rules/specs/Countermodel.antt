@@ -19,6 +19,7 @@ use Rattle.rules.specs.Formula.Quant.{exists, forall}
 use Rattle.rules.specs.FormulaLaws.{bound-by-place, place-bound-by, bound-universal, left-order, empty-clause-plain, empty-clause-negated}
 use Rattle.rules.specs.Reading.{Reading, read}
 use Rattle.rules.specs.Reading.Reading.{unread, formula}
+use Rattle.rules.specs.ReadLaws.{read-proper}
 use Rattle.rules.specs.File.{Form, merge-proof, announced, head-fault, records}
 use Rattle.rules.specs.FileLaws.{length-split}
 use Rattle.rules.specs.Maps.{plays, value-of, as-bool, Reached}
@@ -282,34 +283,40 @@ all-pass-derived rules form text proof F rows P =
     let d = all-derived (rules F) F (records form k proof) rows (P .lines) in
     (d .0, omega (arith, d .1, head-some form k proof (P .head)))
 
--- ---- the theorem
-module _ (read-proper : (text : List ℕ) (F : Formula) → read text ≡ formula F → Proper F) where
-  accepted-passes : (text proof : List ℕ) (F : Formula) (rows : List Row) → checked text proof ≡ accepted F rows
-      → All-pass house merge-proof text proof F rows × (last-empty rows ≡ true)
-  accepted-passes text proof F rows h =
-      let s = accepted-stages house refutation merge-proof text proof F rows h in
-      let e = refutation-accepts (s .0) F (s .1) rows (s .3) in (
-        subst (λ (G : Formula). All-pass house merge-proof text proof G rows) (e .1) (subst (All-pass house merge-proof text proof (s .0)) (e .2) (s .2)),
-        subst (λ (made : List Row). last-empty made ≡ true) (e .2) (e .0),
-      )
+-- ---- what checking accepts
+pub accepted-passes : (text proof : List ℕ) (F : Formula) (rows : List Row) → checked text proof ≡ accepted F rows
+    → All-pass house merge-proof text proof F rows × (last-empty rows ≡ true)
+accepted-passes text proof F rows h =
+    let s = accepted-stages house refutation merge-proof text proof F rows h in
+    let e = refutation-accepts (s .0) F (s .1) rows (s .3) in (
+      subst (λ (G : Formula). All-pass house merge-proof text proof G rows) (e .1) (subst (All-pass house merge-proof text proof (s .0)) (e .2) (s .2)),
+      subst (λ (made : List Row). last-empty made ≡ true) (e .2) (e .0),
+    )
 
-  -- the last maps of an accepted proof are a countermodel of the formula that was read
-  pub accepted-wins : (text proof : List ℕ) (F : Formula) (rows : List Row) → checked text proof ≡ accepted F rows
-      → (read text ≡ formula F) × Countermodel (left-of (F .prefix)) F rows
-  accepted-wins text proof F rows h =
-      let a = accepted-passes text proof F rows h in
-      let d = all-pass-derived house merge-proof text proof F rows (a .0) in
-      (a .0 .given, countermodel (house F) F (read-proper text F (a .0 .given)) (house-alike F) rows (d .0) (d .1) (a .1))
+-- the rows of an accepted proof are good rows of a proper formula
+pub accepted-good : (text proof : List ℕ) (F : Formula) (rows : List Row) → checked text proof ≡ accepted F rows → Proper F × Good (house F) F rows
+accepted-good text proof F rows h =
+    let a = accepted-passes text proof F rows h in
+    let p = read-proper text F (a .0 .given) in
+    (p, good-derived (house F) F p rows (all-pass-derived house merge-proof text proof F rows (a .0) .0))
 
-  -- a text with a proof that checking accepts is a false formula
-  pub accepted-false : (text proof : List ℕ) (F : Formula) (rows : List Row) → checked text proof ≡ accepted F rows → (read text ≡ formula F) × False F
-  accepted-false text proof F rows h =
-      let w = accepted-wins text proof F rows h in (w .0, countermodel-false F (read-proper text F (w .0)) rows (w .1))
+-- the last maps of an accepted proof are a countermodel of the formula that was read
+pub accepted-wins : (text proof : List ℕ) (F : Formula) (rows : List Row) → checked text proof ≡ accepted F rows
+    → (read text ≡ formula F) × Countermodel (left-of (F .prefix)) F rows
+accepted-wins text proof F rows h =
+    let a = accepted-passes text proof F rows h in
+    let d = all-pass-derived house merge-proof text proof F rows (a .0) in
+    (a .0 .given, countermodel (house F) F (read-proper text F (a .0 .given)) (house-alike F) rows (d .0) (d .1) (a .1))
 
-  -- for every line of an accepted proof: settings that make its clause false lose by its maps
-  pub accepted-line-wins : (text proof : List ℕ) (F : Formula) (rows : List Row) → checked text proof ≡ accepted F rows
-      → (i : ℕ) → 1 ≤ i → i ≤ length rows → (s : Assignment) → (Satisfies s (clause-at rows i) → ⊥)
-      → (c : Clause) × List·Memᴰ c (F .matrix) × (Satisfies (played F rows i s) c → ⊥)
-  accepted-line-wins text proof F rows h =
-      let a = accepted-passes text proof F rows h in
-      line-wins (house F) F (read-proper text F (a .0 .given)) (house-alike F) rows (all-pass-derived house merge-proof text proof F rows (a .0) .0)
+-- a text with a proof that checking accepts is a false formula
+pub accepted-false : (text proof : List ℕ) (F : Formula) (rows : List Row) → checked text proof ≡ accepted F rows → (read text ≡ formula F) × False F
+accepted-false text proof F rows h =
+    let w = accepted-wins text proof F rows h in (w .0, countermodel-false F (read-proper text F (w .0)) rows (w .1))
+
+-- for every line of an accepted proof: settings that make its clause false lose by its maps
+pub accepted-line-wins : (text proof : List ℕ) (F : Formula) (rows : List Row) → checked text proof ≡ accepted F rows
+    → (i : ℕ) → 1 ≤ i → i ≤ length rows → (s : Assignment) → (Satisfies s (clause-at rows i) → ⊥)
+    → (c : Clause) × List·Memᴰ c (F .matrix) × (Satisfies (played F rows i s) c → ⊥)
+accepted-line-wins text proof F rows h =
+    let a = accepted-passes text proof F rows h in
+    line-wins (house F) F (read-proper text F (a .0 .given)) (house-alike F) rows (all-pass-derived house merge-proof text proof F rows (a .0) .0)
