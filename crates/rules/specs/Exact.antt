@@ -11,7 +11,9 @@ use borrow.Author.Tests.{eq-eqb, ne-eqb, ltb-false}
 use Rattle.rules.specs.declared.Line.{Line}
 use Rattle.rules.specs.declared.Line.the-variants.{Axiom, Resolve}
 use Rattle.rules.specs.Limits.{lines-most}
-use Rattle.rules.specs.Formula.{Clause, Formula, universals, empty-clause}
+use Rattle.rules.specs.Formula.{Clause, Formula, Assignment, bound-by, universals, empty-clause}
+use Rattle.rules.specs.Formula.Quant.{exists}
+use Rattle.rules.specs.Maps.{plays}
 use Rattle.rules.specs.File.{merge-proof, announced, head-fault, records}
 use Rattle.rules.specs.Lines.{Row, clause-at, column, root-at, house, clause-number, in-set, selected}
 use Rattle.rules.specs.Checking.{all-lines, last-empty, checked}
@@ -20,16 +22,18 @@ use Rattle.rules.specs.Faults.Found.{passes}
 use Rattle.rules.specs.Reading.{read}
 use Rattle.rules.specs.Reading.Reading.{formula}
 use Rattle.rules.specs.Checking.Passed.{passed}
-use Rattle.rules.specs.Paper.{single, Select, merge, Proof-line, falsifying-literal, Same-literals, Merged, Universal, By-axiom, By-resolution, Derivation, Empty, Refutation}
+use Rattle.rules.specs.Paper.{Merge-map, computed, single, Select, merge, Proof-line, falsifying-literal, Same-literals, Merged, Universal, By-axiom, By-resolution, Derivation, Empty, Refutation}
 use Rattle.rules.specs.Named.{universal-at, Left-in, Named, Follow}
 use Rattle.rules.specs.FormulaLaws.{empty-clause-plain, empty-clause-negated, has-empty-clause, universals-differ, bound-universal}
 use Rattle.rules.specs.Proper.{Proper}
 use Rattle.rules.specs.ReadLaws.{read-proper}
-use Rattle.rules.specs.GoodLaws.{passes-cons, all-derived, clause-in}
+use Rattle.rules.specs.GoodLaws.{passes-cons, all-derived, clause-in, column-branch, root-sound}
 use Rattle.rules.specs.FileLaws.{length-split}
 use Rattle.rules.specs.FirstFault.{Verdict, verdict-exact}
 use Rattle.rules.specs.FirstFault.Verdict.{accepts}
-use Rattle.rules.specs.Bridge.{map-at}
+use Rattle.rules.specs.MapLaws.{Sound}
+use Rattle.rules.specs.Good.{Good}
+use Rattle.rules.specs.Bridge.{map-at, stands, stands-merge-map, stands-computed}
 use Rattle.rules.specs.Held.{Holds-line, Hold, same-sym, same-trans, follow-exact}
 
 -- ---- 004's lines of rows: each row's clause, and for each universal the map at the row's root
@@ -59,6 +63,27 @@ paper-held F proper rows i p q = record {
   clause = record { plain = λ v. refl; negated = λ v. refl };
   maps = λ j l. ap (λ (k : ℕ). map-at (column rows k) (root-at rows k i)) (offset-found (universals (F .prefix)) (universals-differ (F .prefix) (proper .distinct)) j l);
 }
+
+-- lines that pass follow from their records
+pub passed-follow : (F : Formula) → Proper F → (rs : List (List ℕ)) (rows : List Row) → all-lines (house F) F rs ≡ passed rows → Follow F (paper-lines F rows) rs
+passed-follow F proper rs rows e = follow-exact F proper (paper-lines F rows) rs .1 (rows, e, paper-held F proper rows)
+
+-- the existential variables left of u
+abbrev pub Left-existential : Formula → ℕ → ℕ → Type 0
+Left-existential F u x = (bound-by exists (F .prefix) x ≡ true) × Left-in F x u
+
+-- each line's map for the universal at offset j is a merge map over the existential variables left of it, and computes what its column plays
+module _ (F : Formula) (rows : List Row) (good : Good (house F) F rows) (i : ℕ) (lo : 1 ≤ i) (hi : i ≤ length rows) (j : ℕ) (l : j < length (universals (F .prefix))) where
+  sound-map : Sound (column rows j) (root-at rows j i)
+  sound-map = root-sound (house F) F rows good j l i lo hi
+
+  pub held-merge-map : Merge-map (Left-existential F (universal-at F j)) (map-at (column rows j) (root-at rows j i))
+  held-merge-map = stands-merge-map (column rows j) (root-at rows j i) (map-at (column rows j) (root-at rows j i)) (stands (column rows j) (root-at rows j i) sound-map)
+      (Left-existential F (universal-at F j)) sound-map
+      (λ k x a b h e. let g = column-branch (house F) F rows good j l k x a b e in (g .existential, g .left))
+
+  pub held-computed : (s : Assignment) → computed (map-at (column rows j) (root-at rows j i)) s ≡ plays (column rows j) s (root-at rows j i)
+  held-computed s = stands-computed (column rows j) (root-at rows j i) (map-at (column rows j) (root-at rows j i)) (stands (column rows j) (root-at rows j i) sound-map) sound-map s
 
 -- ---- Definition 14 as published follows from the rule that a record names
 module _ (F : Formula) (L : ℕ → Proof-line) (i : ℕ) where
