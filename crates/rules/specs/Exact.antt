@@ -1,16 +1,15 @@
 -- Demand 2: checking accepts exactly the files whose lines follow by the rules that their records name, and the rows hold those lines.
 use mathlib.Core.Path.{_≡_, refl, ap, sym, _∙_, subst}
-use mathlib.Core.Bool.{Bool, true, false, _||_, true≢false}
+use mathlib.Core.Bool.{Bool, true, false}
 use mathlib.Core.List.{List, [], _∷_}
 use mathlib.Core.Logic.{_⊎_, inl, inr, _↔_}
 use Prim.Native.Nat.{ℕ, zero, suc, _≤_, _<_}
 use native.Mathlib.Omega.{arith}
-use lib.Dec.{eqb, ltb}
+use lib.Dec.{eqb}
 use lib.ListN.{length, getD}
-use borrow.Author.Tests.{eq-eqb, ne-eqb, ltb-false}
+use borrow.Author.Tests.{eq-eqb, ne-eqb}
 use Rattle.rules.specs.declared.Line.{Line}
 use Rattle.rules.specs.declared.Line.the-variants.{Axiom, Resolve}
-use Rattle.rules.specs.Limits.{lines-most}
 use Rattle.rules.specs.Formula.{Clause, Formula, Assignment, bound-by, universals, empty-clause}
 use Rattle.rules.specs.Formula.Quant.{exists}
 use Rattle.rules.specs.Maps.{plays}
@@ -27,13 +26,14 @@ use Rattle.rules.specs.Named.{universal-at, Left-in, Named, Follow}
 use Rattle.rules.specs.FormulaLaws.{empty-clause-plain, empty-clause-negated, has-empty-clause, universals-differ, bound-universal}
 use Rattle.rules.specs.Proper.{Proper}
 use Rattle.rules.specs.ReadLaws.{read-proper}
-use Rattle.rules.specs.GoodLaws.{passes-cons, all-derived, clause-in, column-branch, root-sound}
+use Rattle.rules.specs.GoodLaws.{all-derived, clause-in, column-branch, root-sound}
 use Rattle.rules.specs.FileLaws.{length-split}
-use Rattle.rules.specs.FirstFault.{Verdict, verdict-exact}
+use Rattle.rules.specs.FirstFault.{verdict-exact}
 use Rattle.rules.specs.FirstFault.Verdict.{accepts}
 use Rattle.rules.specs.MapLaws.{Sound}
 use Rattle.rules.specs.Good.{Good}
 use Rattle.rules.specs.Bridge.{map-at, stands, stands-merge-map, stands-computed}
+use Rattle.rules.specs.Countermodel.{All-pass, accepted-passes, head-some}
 use Rattle.rules.specs.Held.{Holds-line, Hold, same-sym, same-trans, follow-exact}
 
 -- ---- 004's lines of rows: each row's clause, and for each universal the map at the row's root
@@ -129,19 +129,6 @@ pub record Proves (text proof : List ℕ) (F : Formula) (L : ℕ → Proof-line)
   pub follow : Follow F L (records merge-proof (length (universals (F .prefix))) proof)
   pub empty : Empty (L (announced proof) .clause)
 
--- accepted, in its stages: the text is a formula, the head is right, all lines pass, the last clause is empty
-pub record Stages (text proof : List ℕ) (F : Formula) (rows : List Row) : Type 0 where
-  pub text-read : read text ≡ formula F
-  pub head-right : head-fault merge-proof (length (universals (F .prefix))) proof ≡ passes
-  pub lines-pass : all-lines (house F) F (records merge-proof (length (universals (F .prefix))) proof) ≡ passed rows
-  pub last : last-empty rows ≡ true
-
-pub stages : (text proof : List ℕ) (F : Formula) (rows : List Row) → checked text proof ≡ accepted F rows → Stages text proof F rows
-stages text proof F rows e = by (verdict-exact text proof (accepted F rows) .0 e)
-  where
-    by : Verdict text proof (accepted F rows) → Stages text proof F rows
-    by (accepts G w t h l p) = record { text-read = t; head-right = h; lines-pass = l; last = p }
-
 -- the number of records is the number announced
 records-length : (k : ℕ) (proof : List ℕ) → length (records merge-proof k proof) ≡ announced proof
 unfolding records
@@ -155,15 +142,8 @@ empty-same C D s = (
 )
 
 -- a head that passes announces a line
-head-announces : (k : ℕ) (proof : List ℕ) → head-fault merge-proof k proof ≡ passes → 1 ≤ announced proof
-unfolding head-fault
-head-announces k proof e =
-    let p = passes-cons _ _ .0 (passes-cons _ _ .0 (passes-cons _ _ .0 e .1) .1) .0 in
-    ltb-false (announced proof) 1 (or-false-left (ltb (announced proof) 1) (ltb lines-most (announced proof)) p)
-  where
-    or-false-left : (a b : Bool) → (a || b) ≡ false → a ≡ false
-    or-false-left true b h = absurd (true≢false h)
-    or-false-left false b h = refl
+announces : (k : ℕ) (proof : List ℕ) → head-fault merge-proof k proof ≡ passes → 1 ≤ announced proof
+announces k proof e = omega (arith, head-some merge-proof k proof e, records-length k proof)
 
 module _ (text proof : List ℕ) (F : Formula) where
   abbrev k : ℕ
@@ -173,28 +153,28 @@ module _ (text proof : List ℕ) (F : Formula) where
   pub accepted-held : (rows : List Row) → checked text proof ≡ accepted F rows → (L : ℕ → Proof-line) → Proves text proof F L ↔ Hold F L rows
   accepted-held rows e L = (forth, back)
     where
-      s : Stages text proof F rows
-      s = stages text proof F rows e
+      s : All-pass house merge-proof text proof F rows × (last-empty rows ≡ true)
+      s = accepted-passes text proof F rows e
 
       iff : Follow F L (records merge-proof k proof) ↔ ((w : List Row) × (all-lines (house F) F (records merge-proof k proof) ≡ passed w) × Hold F L w)
-      iff = follow-exact F (read-proper text F (s .text-read)) L (records merge-proof k proof)
+      iff = follow-exact F (read-proper text F (s .0 .given)) L (records merge-proof k proof)
 
       lines : length rows ≡ announced proof
-      lines = all-derived (house F) F (records merge-proof k proof) rows (s .lines-pass) .1 ∙ records-length k proof
+      lines = all-derived (house F) F (records merge-proof k proof) rows (s .0 .lines) .1 ∙ records-length k proof
 
       forth : Proves text proof F L → Hold F L rows
       forth p =
           let f = iff .0 (p .follow) in
-          let q : f .0 ≡ rows = cc (f .1, s .lines-pass) in
+          let q : f .0 ≡ rows = cc (f .1, s .0 .lines) in
           subst (Hold F L) q (f .2)
 
       back : Hold F L rows → Proves text proof F L
       back hold = record {
-        text-read = s .text-read;
-        head-right = s .head-right;
-        follow = iff .1 (rows, s .lines-pass, hold);
+        text-read = s .0 .given;
+        head-right = s .0 .head;
+        follow = iff .1 (rows, s .0 .lines, hold);
         empty = subst (λ (n : ℕ). Empty (L n .clause)) lines
-            (empty-same (L (length rows) .clause) (clause-at rows (length rows)) (hold (length rows) (omega (arith, lines, head-announces k proof (s .head-right))) (omega arith) .clause) .1 (s .last));
+            (empty-same (L (length rows) .clause) (clause-at rows (length rows)) (hold (length rows) (omega (arith, lines, announces k proof (s .0 .head))) (omega arith) .clause) .1 (s .1));
       }
 
   -- a proof that proves lines is accepted, with rows that hold them
@@ -209,13 +189,13 @@ module _ (text proof : List ℕ) (F : Formula) where
 
       last : last-empty (f .0) ≡ true
       last =
-          let l : 1 ≤ length (f .0) = omega (arith, lines, head-announces k proof (p .head-right)) in
+          let l : 1 ≤ length (f .0) = omega (arith, lines, announces k proof (p .head-right)) in
           empty-same (L (length (f .0)) .clause) (clause-at (f .0) (length (f .0))) (f .2 (length (f .0)) l (omega arith) .clause) .0
           (subst (λ (n : ℕ). Empty (L n .clause)) (sym lines) (p .empty))
 
   -- an accepted proof proves the lines of its rows
   pub accepted-proves : (rows : List Row) → checked text proof ≡ accepted F rows → Proves text proof F (paper-lines F rows)
-  accepted-proves rows e = accepted-held rows e (paper-lines F rows) .1 (paper-held F (read-proper text F (stages text proof F rows e .text-read)) rows)
+  accepted-proves rows e = accepted-held rows e (paper-lines F rows) .1 (paper-held F (read-proper text F (accepted-passes text proof F rows e .0 .given)) rows)
 
   -- demand 2: checking accepts exactly the proofs whose lines follow by the rules that their records name, the last clause empty
   pub exact : ((rows : List Row) × (checked text proof ≡ accepted F rows)) ↔ ((L : ℕ → Proof-line) × Proves text proof F L)
@@ -236,7 +216,7 @@ module _ (text proof : List ℕ) (F : Formula) where
       a = proved-accepted L p
 
       lines : length (a .0) ≡ announced proof
-      lines = all-derived (house F) F (records merge-proof k proof) (a .0) (stages text proof F (a .0) (a .1) .lines-pass) .1 ∙ records-length k proof
+      lines = all-derived (house F) F (records merge-proof k proof) (a .0) (accepted-passes text proof F (a .0) (a .1) .0 .lines) .1 ∙ records-length k proof
 
       hL : Holds-line F L (a .0) i
       hL = accepted-held (a .0) (a .1) L .0 p i lo (omega (arith, lines))
@@ -247,7 +227,7 @@ module _ (text proof : List ℕ) (F : Formula) where
   -- what is proved is a refutation as published
   pub proves-refutation : (L : ℕ → Proof-line) → Proves text proof F L → Refutation (Left-in F) F L (announced proof)
   proves-refutation L p = (
-    head-announces k proof (p .head-right),
+    announces k proof (p .head-right),
     subst (Derivation (Left-in F) F L) (records-length k proof) (follow-derivation F L (records merge-proof k proof) (p .follow)),
     p .empty,
   )
