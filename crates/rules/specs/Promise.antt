@@ -1,1 +1,127 @@
--- To come.
+-- The promise of checking, as its caller reads it: an answer 0 means that the formula is false. And that the promise is not empty: G, and 004's Example 16.
+use mathlib.Core.Path.{_≡_, refl, sym, _∙_, ap, subst}
+use mathlib.Core.Bool.{Bool, true, false, _||_}
+use mathlib.Core.List.{List, [], _∷_, _++_}
+use Prim.Native.Nat.{ℕ, zero, suc, _≤_, _<_}
+use native.Mathlib.Omega.{arith}
+use lib.Dec.{ltb}
+use lib.ListN.{length, replicate}
+use borrow.Author.Tests.{ltb-false}
+use Rattle.rules.specs.declared.Value.the-variants.{Star, One, Zero}
+use Rattle.rules.specs.declared.Node.the-variants.{None, Leaf, Branch}
+use Rattle.rules.specs.declared.Reply.{Reply}
+use Rattle.rules.specs.Limits.{text-most}
+use Rattle.rules.specs.Formula.{Quant, Bound, Clause, Formula, False}
+use Rattle.rules.specs.Formula.Quant.{exists, forall}
+use Rattle.rules.specs.Reading.{Reading, read}
+use Rattle.rules.specs.Reading.Reading.{unread, formula}
+use Rattle.rules.specs.Lines.{Entry, Row}
+use Rattle.rules.specs.Checking.{Checked, checked}
+use Rattle.rules.specs.Checking.Checked.{rejected, accepted}
+use Rattle.rules.specs.Tables.{Leaves}
+use Rattle.rules.specs.Tables.Leaves.{untouched, zeroed, filled}
+use Rattle.rules.specs.Services.{Lent, Answer, success, check-answer, refused-early, short-tables, checking, read-answer, reading, short}
+use Rattle.rules.specs.Listed.{check-listed, text-listed}
+use Rattle.rules.specs.Countermodel.{accepted-false}
+use Rattle.rules.specs.Bytes.{text, hex}
+use Rattle.rules.specs.Cases.{checks, G, proof-G}
+use Rattle.rules.specs.Apart.{example-16, proof-16}
+
+-- ---- an answer 0
+-- what a call of checking that answers 0 says of its text and proof
+pub record Answered (text proof : List ℕ) (T : Lent) : Type 0 where
+  pub formula-is : Formula
+  pub rows : List Row
+  pub accepts : checked text proof ≡ accepted formula-is rows
+  pub answer : checking text proof T ≡ record { reply = success formula-is (length rows); leaves = filled formula-is rows }
+
+one≢zero : {n : ℕ} → 1 ≤ n → n ≡ 0 → ⊥
+one≢zero h e = omega arith
+
+pub answered-zero : (text proof : List ℕ) (T : Lent) → checking text proof T .reply .number ≡ 0 → Answered text proof T
+unfolding checking
+answered-zero text proof T = by (short-tables T) (ltb text-most (length text)) refl refl
+  where
+    now : (s l : Bool) → Answer
+    now s l = elim s [ true ↦ refused-early 2 | false ↦ elim l [ true ↦ refused-early 1 | false ↦ check-answer (checked text proof) ] ]
+
+    ended : (c : Checked) → checked text proof ≡ c → checking text proof T ≡ check-answer c → check-answer c .reply .number ≡ 0 → Answered text proof T
+    ended (rejected n at v) e f z = absurd (one≢zero (omega (arith, check-listed text proof n at v e)) z)
+    ended (accepted F rows) e f z = record { formula-is = F; rows = rows; accepts = e; answer = f }
+
+    by : (s l : Bool) → short-tables T ≡ s → ltb text-most (length text) ≡ l → checking text proof T .reply .number ≡ 0 → Answered text proof T
+    by true l e f z = absurd (one≢zero (omega arith) (sym (ap (λ (b : Bool). now b (ltb text-most (length text)) .reply .number) e) ∙ z))
+    by false true e f z = absurd (one≢zero (omega arith) (sym (ap (λ (b : Bool). now b (ltb text-most (length text)) .reply .number) e ∙ ap (λ (b : Bool). now false b .reply .number) f) ∙ z))
+    by false false e f z =
+        let same : checking text proof T ≡ check-answer (checked text proof) =
+        ap (λ (b : Bool). now b (ltb text-most (length text))) e ∙ ap (λ (b : Bool). now false b) f in
+        ended (checked text proof) refl same (sym (ap (λ (a : Answer). a .reply .number) same) ∙ z)
+
+-- demand 3's last sentence, from the answer: the text reads to a formula, and that formula is false
+pub answered-false : (text proof : List ℕ) (T : Lent) → checking text proof T .reply .number ≡ 0 → (F : Formula) × (read text ≡ formula F) × False F
+answered-false text proof T z =
+    let a = answered-zero text proof T z in
+    let f = accepted-false text proof (a .formula-is) (a .rows) (a .accepts) in
+    (a .formula-is, f .0, f .1)
+
+-- ---- instances
+abbrev any : ℕ → Bound
+any v = record { kind = exists; var = v }
+
+abbrev every : ℕ → Bound
+every v = record { kind = forall; var = v }
+
+abbrev of-words : ℕ → ℕ → Clause
+of-words p n = record { plain = p ∷ []; negated = n ∷ [] }
+
+abbrev row : ℕ → ℕ → Entry → Row
+row p n e = record { clause = of-words p n; entries = e ∷ [] }
+
+abbrev leaf : ℕ → Rattle.rules.specs.declared.Value.Value → Entry
+leaf i v = record { node = Leaf v; root = i }
+
+abbrev pub formula-G : Formula
+formula-G = record { variables = 3; prefix = any 1 ∷ every 2 ∷ any 3 ∷ []; matrix = of-words 7 0 ∷ of-words 4 3 ∷ of-words 0 4 ∷ [] }
+
+abbrev pub rows-G : List Row
+rows-G =
+    row 5 0 (leaf 1 Zero)
+    ∷ row 4 1 (leaf 2 One)
+    ∷ row 0 4 (leaf 3 Star)
+    ∷ row 4 0 (record { node = Branch 1 1 2; root = 4 })
+    ∷ row 0 0 (record { node = None; root = 4 })
+    ∷ []
+
+pub accepts-G : checked G proof-G ≡ accepted formula-G rows-G
+unfolding checks G proof-G
+accepts-G = refl
+
+-- G is false
+pub G-false : False formula-G
+G-false = accepted-false G proof-G formula-G rows-G accepts-G .1
+
+abbrev pub formula-16 : Formula
+formula-16 = record {
+  variables = 3;
+  prefix = any 1 ∷ every 2 ∷ any 3 ∷ [];
+  matrix = of-words 7 0 ∷ of-words 4 3 ∷ of-words 3 4 ∷ of-words 0 7 ∷ [];
+}
+
+abbrev pub rows-16 : List Row
+rows-16 =
+    row 5 0 (leaf 1 Zero)
+    ∷ row 4 1 (leaf 2 One)
+    ∷ row 4 0 (record { node = Branch 1 1 2; root = 3 })
+    ∷ row 1 4 (leaf 4 Zero)
+    ∷ row 0 5 (leaf 5 One)
+    ∷ row 0 4 (record { node = Branch 1 4 5; root = 6 })
+    ∷ row 0 0 (record { node = None; root = 3 })
+    ∷ []
+
+pub accepts-16 : checked (text example-16) (hex proof-16) ≡ accepted formula-16 rows-16
+unfolding checks
+accepts-16 = refl
+
+-- Example 16's formula is false
+pub example-16-false : False formula-16
+example-16-false = accepted-false (text example-16) (hex proof-16) formula-16 rows-16 accepts-16 .1
