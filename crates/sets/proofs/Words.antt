@@ -1,19 +1,23 @@
 -- A set of one word: the operations of the rules on it are those of the word.
 use mathlib.Core.Path.{_≡_, refl, sym, ap, _∙_}
 use mathlib.Core.Bool.{Bool, true, false, not}
-use mathlib.Core.List.{[], _∷_}
+use mathlib.Core.List.{List, [], _∷_, _++_, append-nil}
 use mathlib.Core.Logic.{_≢_}
-use Prim.Native.Nat.{ℕ, zero, suc, _-_, _*_, _/_, _%_, _^_, _≤_, _<_}
+use Prim.Native.Nat.{ℕ, zero, suc, _+_, _-_, _*_, _/_, _%_, _^_, _≤_, _<_}
 use native.Mathlib.Nat.{one-mul}
+use native.Mathlib.Numerals.{add-one}
 use native.Mathlib.Omega.{arith}
 use lib.Dec.{eqb, lit<}
 use lib.Bits.{bitAnd, bitOr, and-lt}
-use lib.ListN.{getD}
+use lib.ListN.{length, getD, take, drop, set, length-append, length-drop, drop-of-length-le}
 use lib.Pow.{shl-exact}
+use lib.Seq.{drop-cons, set-split, take-at, take-all}
 use borrow.Author.Tests.{eqb-true, eqb-false}
+use Rattle.rules.specs.Limits.{set-words}
 use Rattle.rules.specs.Bits.{bit}
 use Rattle.rules.specs.Sets.{has, with, without, only, empty, meet}
 use Rattle.rules.specs.SetLaws.{has-past, zeros-empty, empty-zeros, meet-only}
+use Rattle.sets.specs.Values.{put-in, clause-in}
 
 -- one bit shifted to its place
 pub one-shl : (k : ℕ) → k < 64 → 1 * 2 ^ k % 2 ^ 64 ≡ 2 ^ k
@@ -73,3 +77,30 @@ empty-word w h = go (eqb w 0) refl
 pub meet-word : (a b : ℕ) → a < 2 ^ 64 → b < 2 ^ 64 → not (eqb (bitAnd a b) 0) ≡ meet (a ∷ []) (b ∷ [])
 unfolding only
 meet-word a b ha hb = ap not (empty-word (bitAnd a b) (and-lt 64 a b ha hb)) ∙ sym (meet-only (a ∷ []) (b ∷ []))
+
+-- ---- in the words of a table
+pub word-read : (row : List ℕ) (place : ℕ) → place < length row → getD row place 0 ∷ [] ≡ take set-words (drop place row)
+unfolding set-words
+word-read row place h = rw (drop-cons row place 0 h)
+
+pub word-written : (row : List ℕ) (place w : ℕ) → place < length row → set row place w ≡ put-in row place (w ∷ [])
+unfolding put-in
+word-written row place w h = rw (add-one, set-split row place w h)
+
+pub one-word : 1 ≡ set-words
+unfolding set-words
+one-word = refl
+
+-- two sets written one behind the other fill the row
+pub both-written : (row ws us : List ℕ) (n : ℕ) → length row ≡ 2 * n → length ws ≡ n → length us ≡ n → put-in (put-in row 0 ws) n us ≡ ws ++ us
+unfolding put-in
+both-written row ws us n h a b =
+    let rest : List ℕ = drop (0 + length ws) row in
+    let long : length (ws ++ rest) ≤ n + length us = omega (arith, length-append ws rest, length-drop (0 + length ws) row) in
+    rw (take-at ws rest n a, drop-of-length-le (ws ++ rest) long, append-nil us)
+
+-- two sets read one behind the other are the clause of the row
+pub both-read : (row : List ℕ) (n : ℕ) → length row ≡ 2 * set-words → n ≡ set-words
+    → record { plain = take set-words (drop 0 row); negated = take set-words (drop n row) } ≡ clause-in row
+unfolding clause-in
+both-read row n h e = rw (e, take-all set-words (drop set-words row) (omega (arith, length-drop set-words row)))

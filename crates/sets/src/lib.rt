@@ -1,6 +1,7 @@
 // Sets of variables and clauses, by value. How many words a set has is known to the methods of Set alone.
 ghost use mathlib.Core.Path.{_≡_};
-ghost use Prim.Native.Nat.{_≤_};
+ghost use Prim.Native.Nat.{_+_, _*_, _≤_};
+ghost use lib.ListN.{length, take, drop};
 ghost use Rattle.rules.specs.Limits.{variables-most, set-words};
 ghost use Rattle.rules.specs.Sets.{none, has, with, without, join, only, empty, meet};
 ghost use Rattle.rules.specs.Formula.{
@@ -12,7 +13,8 @@ ghost use Rattle.rules.specs.Formula.{
   two-faced,
   empty-clause,
 };
-ghost use Rattle.sets.specs.Values.{set-of, clause-of, less-plain, less-negated, joined};
+ghost use Rattle.rules.specs.Tables.{clause-row};
+ghost use Rattle.sets.specs.Values.{put-in, clause-in, set-of, clause-of, less-plain, less-negated, joined};
 
 // A set of variables: variable v is bit v - 1.
 pub struct Set {
@@ -76,6 +78,29 @@ impl Set {
         Set {
             word: self.word & other.word,
         }
+    }
+
+    // How many words of a table a set takes.
+    pub fn words() -> usize
+        ensures { λ r. ⌜ r ≡ set-words ⌝ }
+    {
+        1
+    }
+
+    // The set that stands in a row of words from a place on.
+    pub fn read(row: &[u64], place: usize) -> Set
+        requires { ⌜ place + set-words ≤ length (now row) ⌝ }
+        ensures { λ r. ⌜ set-of r ≡ take set-words (drop place (now (row .entry))) ⌝ }
+    {
+        Set { word: row[place] }
+    }
+
+    // The set put into a row of words from a place on; the other words stay.
+    pub fn write(self, row: &mut [u64], place: usize)
+        requires { ⌜ place + set-words ≤ length (now row) ⌝ }
+        ensures { λ _. ⌜ now (row .exit) ≡ put-in (now (row .entry)) place (set-of self) ⌝ }
+    {
+        row[place] = self.word;
     }
 
     // Whether no variable is in the set.
@@ -189,6 +214,33 @@ impl Clause {
             plain: self.plain.only(variables),
             negated: self.negated.only(variables),
         }
+    }
+
+    // How many words of a table a clause takes.
+    pub fn words() -> usize
+        ensures { λ r. ⌜ r ≡ 2 * set-words ⌝ }
+    {
+        2 * Set::words()
+    }
+
+    // The clause that stands in a row of words.
+    pub fn read(row: &[u64]) -> Clause
+        requires { ⌜ length (now row) ≡ 2 * set-words ⌝ }
+        ensures { λ r. ⌜ clause-of r ≡ clause-in (now (row .entry)) ⌝ }
+    {
+        Clause {
+            plain: Set::read(row, 0),
+            negated: Set::read(row, Set::words()),
+        }
+    }
+
+    // The clause put into a row of words.
+    pub fn write(self, row: &mut [u64])
+        requires { ⌜ length (now row) ≡ 2 * set-words ⌝ }
+        ensures { λ _. ⌜ now (row .exit) ≡ clause-row (clause-of self) ⌝ }
+    {
+        self.plain.write(row, 0);
+        self.negated.write(row, Set::words());
     }
 
     // Whether some variable stands in the clause both ways.
