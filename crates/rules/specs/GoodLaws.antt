@@ -624,7 +624,7 @@ good-from R F rows (r ∷ rs) end proper g h =
 -- ---- the maps of good rows
 module _ (R : Rules) (F : Formula) (rows : List Row) (good : Good R F rows) (j : ℕ) (l : j < length (universals (F .prefix))) where
   -- a branch stands at a line of the rows
-  branch-line : (i x a b : ℕ) → column rows j i ≡ Branch x a b → (1 ≤ i) × (i ≤ length rows)
+  pub branch-line : (i x a b : ℕ) → column rows j i ≡ Branch x a b → (1 ≤ i) × (i ≤ length rows)
   branch-line zero x a b e = absurd (branch≢none (sym e ∙ column-zero rows j))
   branch-line (suc i) x a b e =
       by-cases (decLe (suc i) (length rows)) (λ h. (omega arith, h)) (λ h. absurd (branch≢none (sym e ∙ column-past rows j (suc i) (omega arith))))

@@ -35,4 +35,6 @@ pub mod Bridge
 pub mod Held
 pub mod Exact
 pub mod FirstFault
+pub mod TableLaws
+pub mod TablePlays
 pub mod Promise
