@@ -12,7 +12,7 @@ use lib.Seq.{getD-append-seam}
 use borrow.Author.Tests.{eq-eqb, ne-eqb, eqb-true}
 use Rattle.rules.specs.Limits.{word-bits, set-words, variables-most}
 use Rattle.rules.specs.Sets.{Set, has, with, without, empty}
-use Rattle.rules.specs.SetLaws.{and-left, and-right, or-cases, length-none, length-with, length-without, length-join, length-only, has-none, has-with, has-without, has-join, has-only, empty-has, has-empty, member, meet-member, member-meet, meet-has, has-meet}
+use Rattle.rules.specs.SetLaws.{and-left, and-right, or-cases, length-none, length-with, length-without, length-join, length-only, has-none, with-comm, has-with, has-without, has-join, has-only, empty-has, has-empty, member, meet-member, member-meet, meet-has, has-meet}
 use Rattle.rules.specs.Formula.{Quant, Bound, Clause, Formula, Literal, same-kind, bound-by, bound, universals, existentials, left-of, no-literal, with-literal, kept-by, resolvent, two-faced, empty-clause}
 use Rattle.rules.specs.Formula.Quant.{exists, forall}
 use Rattle.rules.specs.Proper.{nowhere, var-at, kind-at, Distinct, Proper}
@@ -311,6 +311,31 @@ universals-snoc-exists Q v = universals-append Q (bind-of exists v ∷ []) ∙ a
 pub universals-snoc-forall : (Q : List Bound) (v : ℕ) → universals (Q ++ (record { kind = forall; var = v } ∷ [])) ≡ universals Q ++ (v ∷ [])
 unfolding universals
 universals-snoc-forall Q v = universals-append Q (bind-of forall v ∷ [])
+
+-- an existential more is one variable more in their set
+pub existentials-snoc-exists : (Q : List Bound) (v : ℕ) → existentials (Q ++ (record { kind = exists; var = v } ∷ [])) ≡ with (existentials Q) v
+unfolding existentials
+existentials-snoc-exists [] v = refl
+existentials-snoc-exists (q ∷ Q) v = go (existentials-snoc-exists Q v) (q .kind) refl
+  where
+    more : List Bound
+    more = Q ++ (record { kind = exists; var = v } ∷ [])
+
+    go : existentials more ≡ with (existentials Q) v → (k : Quant) → q .kind ≡ k → existentials (q ∷ more) ≡ with (existentials (q ∷ Q)) v
+    go rest exists e = rw (existentials-exists q more e, existentials-exists q Q e, rest) (with-comm (existentials Q) v (q .var))
+    go rest forall e = rw (existentials-forall q more e, existentials-forall q Q e) rest
+
+pub existentials-snoc-forall : (Q : List Bound) (v : ℕ) → existentials (Q ++ (record { kind = forall; var = v } ∷ [])) ≡ existentials Q
+unfolding existentials
+existentials-snoc-forall [] v = refl
+existentials-snoc-forall (q ∷ Q) v = go (existentials-snoc-forall Q v) (q .kind) refl
+  where
+    more : List Bound
+    more = Q ++ (record { kind = forall; var = v } ∷ [])
+
+    go : existentials more ≡ existentials Q → (k : Quant) → q .kind ≡ k → existentials (q ∷ more) ≡ existentials (q ∷ Q)
+    go rest exists e = rw (existentials-exists q more e, existentials-exists q Q e, rest)
+    go rest forall e = rw (existentials-forall q more e, existentials-forall q Q e) rest
 
 pub var-at-snoc : (Q : List Bound) (q : Bound) (i : ℕ) → i < length Q → var-at (Q ++ (q ∷ [])) i ≡ var-at Q i
 var-at-snoc Q q i h = ap (λ (b : Bound). b .var) (List·getD-append Q (q ∷ []) nowhere i h)

@@ -3,17 +3,18 @@ use mathlib.Core.Path.{_≡_, refl, sym, ap, ap₂, _∙_}
 use mathlib.Core.Bool.{Bool, true, false, not, _&&_, _||_, true≢false, false≢true, or-comm, or-true, and-true}
 use mathlib.Core.List.{[], _∷_}
 use mathlib.Core.Logic.{_≢_, _⊎_, inl, inr, by-cases}
-use Prim.Native.Nat.{ℕ, zero, suc, _+_, _-_, _*_, _/_, _%_, _^_, _≤_, _<_}
+use Prim.Native.Nat.{ℕ, zero, suc, _+_, _-_, _*_, _/_, _%_, _^_, _≤_, _<_, max}
 use native.Mathlib.Decide.{ℕ-discrete, decLe}
 use native.Mathlib.Omega.{arith}
 use lib.Dec.{eqb, eqb·zero-suc, lit<}
-use lib.Bits.{bitAnd, bitOr, or-zero-r, and-zero-r}
+use lib.Arith.{bin-ind}
+use lib.Bits.{bitAnd, bitOr, or-step, or-zero-r, and-zero-r, or-comm as bits-comm}
 use lib.ListN.{length, getD, set, replicate, length-set, length-replicate, List·getD-eq-default}
 use lib.Pow.{pow-lt}
 use lib.Seq.{getD-set-same, getD-set-other}
 use borrow.Author.Tests.{eq-eqb, ne-eqb, not-true, not-false}
 use Rattle.rules.specs.Limits.{word-bits}
-use Rattle.rules.specs.Bits.{bit, bit-or, bit-and, bit-not, bit-one, bit-zero, bit-ext}
+use Rattle.rules.specs.Bits.{bit, half-or, bit-or, bit-and, bit-not, bit-one, bit-zero, bit-ext}
 use Rattle.rules.specs.Sets.{Set, none, has, with, without, join, only, some, empty, meet}
 
 -- ---- both tests pass, or one of two
@@ -287,3 +288,29 @@ empty-zeros s w h i = bit-ext word-bits (getD s i 0) 0 (w i) (lit< tt) same
         let q : (word-bits * i + k) / word-bits ≡ i = omega arith in
         let r : (word-bits * i + k) % word-bits ≡ k = omega arith in
         (rw (q, r) at (has-at s (word-bits * i + k) (word-bits * i + k) refl ∙ empty-has s h (suc (word-bits * i + k)))) ∙ sym (bit-zero k)
+
+-- ---- the order in which variables are added means nothing
+or-twice : (a b c : ℕ) → bitOr (bitOr a b) c ≡ bitOr (bitOr (a / 2) (b / 2)) (c / 2) * 2 + max (max (a % 2) (b % 2)) (c % 2)
+or-twice a b c =
+    let m : bitOr a b % 2 ≡ max (a % 2) (b % 2) = omega (arith, or-step a b) in
+    or-step (bitOr a b) c ∙ rw (half-or a b, m)
+
+or-right-comm : (a b c : ℕ) → bitOr (bitOr a b) c ≡ bitOr (bitOr a c) b
+or-right-comm =
+    bin-ind (λ (n : ℕ). (b c : ℕ) → bitOr (bitOr n b) c ≡ bitOr (bitOr n c) b) (λ b c. bits-comm b c)
+    (λ n ih b c. or-twice n b c ∙ omega (arith, ih (b / 2) (c / 2)) ∙ sym (or-twice n c b))
+
+-- bits p and q set at words i and j
+abbrev set-bit : Set → ℕ → ℕ → Set
+set-bit s i p = set s i (bitOr (getD s i 0) p)
+
+set-bits-comm : (s : Set) (i j p q : ℕ) → set-bit (set-bit s i p) j q ≡ set-bit (set-bit s j q) i p
+set-bits-comm [] i j p q = refl
+set-bits-comm (a ∷ s) zero zero p q = ap (λ (b : ℕ). b ∷ s) (or-right-comm a p q)
+set-bits-comm (a ∷ s) zero (suc j) p q = refl
+set-bits-comm (a ∷ s) (suc i) zero p q = refl
+set-bits-comm (a ∷ s) (suc i) (suc j) p q = ap {B = Set} (λ r. a ∷ r) (set-bits-comm s i j p q)
+
+pub with-comm : (s : Set) (v w : ℕ) → with (with s v) w ≡ with (with s w) v
+unfolding with
+with-comm s v w = set-bits-comm s ((v - 1) / word-bits) ((w - 1) / word-bits) (2 ^ ((v - 1) % word-bits)) (2 ^ ((w - 1) % word-bits))
