@@ -11,7 +11,7 @@ use Rattle.rules.specs.declared.Played.{Played}
 use Rattle.rules.specs.Bytes.{text, hex}
 use Rattle.rules.specs.Services.{Lent, refusal, Answer, reading, checking, playing, table-column}
 use Rattle.rules.specs.Maps.{walk, walk-over}
-use Rattle.rules.specs.Cases.{lent, prints, checks, leaves, reads, read-leaves, plays, G, proof-G, row-of, alone}
+use Rattle.rules.specs.Cases.{lent, prints, checks, leaves, reads, read-prefix, read-clauses, plays, G, proof-G, row-of, alone}
 
 -- ---- texts: the number and the offset of the reply
 pub record Text-case : Type 0 where
@@ -97,6 +97,24 @@ texts =
     ∷ case "p cnf 0 1 1 0" 5 10
     ∷ case "p cnf 0 2 0 0" 0 0
     ∷ case "p cnf 1 1 0 e" 10 12
+    ∷ case "c a\n\tcb\np\tcnf\r\n0\n0\n" 0 0
+    ∷ case "c\rp cnf 0 0" 3 11
+    ∷ case "c\nq" 3 2
+    ∷ case "p c\ncnf 0 0" 3 2
+    ∷ case "p cnf 00 0" 3 6
+    ∷ case "p cnf - 0" 3 6
+    ∷ case "p cnf 1/ 0" 3 6
+    ∷ case "p cnf 1: 0" 3 6
+    ∷ case "p cnf : 0" 3 6
+    ∷ case "p cnf 4294967297 0" 4 6
+    ∷ case "p cnf 0 190" 10 11
+    ∷ case "p cnf 64 256" 10 12
+    ∷ case "p cnf 64 257" 4 9
+    ∷ case "p cnf 1 0 e x" 3 12
+    ∷ case "p cnf 1 0 e 1 0 a 0" 3 18
+    ∷ case "p cnf 1 1 e 1 0 1 0 a 1 0" 10 20
+    ∷ case "p cnf 1 2 e 1 0 1 0 e 1 0" 3 20
+    ∷ case "p cnf 1 0 a 1 0 x" 10 16
     ∷ []
 
 -- reading answers so
@@ -177,6 +195,30 @@ proofs =
     ∷ with-proof "p cnf 3 2 a 3 1 0 e 2 0 2 3 1 0 -2 -3 -1 0" "4D 52 50 01 00 03 00 01 01 00 00 00 00 00 00 01 02 00 00 00 00 00 00 02 01 00 02 00 02 02 00" 31 3 3
     ∷ with-proof "p cnf 3 2 a 1 0 e 2 0 a 3 0 2 1 3 0 -2 1 -3 0" "4D 52 50 01 00 03 00 01 01 00 00 00 00 00 00 01 02 00 00 00 00 00 00 02 01 00 02 00 02 02 00" 0 0 0
     ∷ with-proof "p cnf 3 2 a 1 0 e 2 0 a 3 0 2 1 3 0 -2 1 -3 0" "4D 52 50 01 00 03 00 01 01 00 00 00 00 00 00 01 02 00 00 00 00 00 00 02 01 00 02 00 02 03 00" 30 3 1
+    ∷ with-proof "p cnf 3 3 e 1 0 a 2 0 e 3 0 1 2 3 0 -1 -2 3 0 -3 0" "4D 52 50 01 00 02 00 01 01 00 00 00 00 00 00 02 01 00 02 00 01 00 00" 24 2 0
+    ∷ with-proof "p cnf 3 3 e 1 0 a 2 0 e 3 0 1 2 3 0 -1 -2 3 0 -3 0" "4D 52 50 01 00 03 00 01 01 00 00 00 00 00 00 01 02 00 00 00 00 00 00 02 01 00 03 00 00 01 00" 24 3 0
+    ∷ with-proof "p cnf 3 3 e 1 0 a 2 0 e 3 0 1 2 3 0 -1 -2 3 0 -3 0" "4D 52 50 01 00 03 00 01 01 00 00 00 00 00 00 01 02 00 00 00 00 00 00 02 01 00 02 00 41 01 00" 25 3 0
+    ∷ with-proof "p cnf 3 3 e 1 0 a 2 0 e 3 0 1 2 3 0 -1 -2 3 0 -3 0" "4D 52 50 01 00 02 00 01 03 00 00 00 00 00 00 02 01 00 01 00 01 00 00" 26 2 0
+    ∷ with-proof "p cnf 3 3 e 1 0 a 2 0 e 3 0 1 2 3 0 -1 -2 3 0 -3 0" "4D 52 50 01 00 02 00 01 01 00 00 00 00 00 00 02 01 00 01 00 01 02 00" 27 2 0
+    ∷ with-proof "p" "4D 52 50 01 00 00 00" 3 1 0
+    ∷ with-proof "p cnf 3 2 a 3 0 e 1 2 0 1 2 3 0 -1 -2 -3 0" "4D 52 50 01 00 03 00 01 01 00 00 00 00 00 00 01 02 00 00 00 00 00 00 02 01 00 02 00 01 00 00" 29 3 0
+    ∷ with-proof "p cnf 3 2 a 3 0 e 1 2 0 1 2 3 0 -1 -2 -3 0" "4D 52 50 01 00 03 00 01 01 00 00 00 00 00 00 01 02 00 00 00 00 00 00 02 01 00 02 00 01 01 00" 29 3 0
+    ∷ with-proof "p cnf 3 2 a 3 2 0 e 1 0 1 2 3 0 -1 -2 -3 0" "4D 52 50 01 00 03 00 01 01 00 00 00 00 00 00 01 02 00 00 00 00 00 00 02 01 00 02 00 01 02 00" 31 3 3
+    ∷ with-proof "p cnf 3 2 a 3 2 0 e 1 0 1 2 3 0 -1 -2 -3 0" "4D 52 50 01 00 03 00 01 01 00 00 00 00 00 00 01 02 00 00 00 00 00 00 02 01 00 02 00 01 01 00" 30 3 3
+    ∷ with-proof "p cnf 3 2 e 1 0 a 3 2 0 1 2 3 0 -1 -2 -3 0" "4D 52 50 01 00 03 00 01 01 00 00 00 00 00 00 01 02 00 00 00 00 00 00 02 01 00 02 00 01 01 00" 31 3 2
+    ∷ with-proof "p cnf 3 2 e 1 0 a 3 2 0 1 2 3 0 -1 -2 -3 0" "4D 52 50 01 00 03 00 01 01 00 00 00 00 00 00 01 02 00 00 00 00 00 00 02 01 00 02 00 01 03 00" 0 0 0
+    ∷ with-proof "p cnf 1 2 e 1 0 0 1 0" "4D 52 50 01 00 02 00 01 01 00 00 00 00 00 00 01 02 00 00 00 00 00 00" 32 2 0
+    ∷ with-proof "p cnf 1 2 e 1 0 0 1 0" "4D 52 50 01 00 02 00 01 02 00 00 00 00 00 00 01 01 00 00 00 00 00 00" 0 0 0
+    ∷ with-proof "p cnf 64 1 e 1 64 0 -64 0" "4D 52 50 01 00 01 00 01 01 00 00 00 00 00 00" 32 1 0
+    ∷ with-proof "p cnf 64 2 e 1 64 0 1 64 0 -1 -64 0" "4D 52 50 01 00 03 00 01 01 00 00 00 00 00 00 01 02 00 00 00 00 00 00 02 01 00 02 00 01 00 00" 29 3 0
+    ∷ with-proof "p cnf 64 2 e 1 64 0 1 64 0 -1 -64 0" "4D 52 50 01 00 03 00 01 01 00 00 00 00 00 00 01 02 00 00 00 00 00 00 02 01 00 02 00 40 00 00" 29 3 0
+    ∷ with-proof "p cnf 64 3 e 1 64 0 1 64 0 -64 0 -1 0" "4D 52 50 01 00 05 00 01 01 00 00 00 00 00 00 01 02 00 00 00 00 00 00 02 01 00 02 00 40 00 00 01 03 00 00 00 00 00 00 02 03 00 04 00 01 00 00" 0 0 0
+    ∷ with-proof "p cnf 7 4 e 6 7 0 a 5 0 6 7 5 0 -6 7 -5 0 6 -7 5 0 -6 -7 -5 0" "4D 52 50 01 00 07 00 01 01 00 00 00 00 00 00 01 02 00 00 00 00 00 00 01 03 00 00 00 00 00 00 01 04 00 00 00 00 00 00 02 01 00 02 00 06 01 00 02 03 00 04 00 06 01 00 02 05 00 06 00 07 00 00" 0 0 0
+    ∷ with-proof "p cnf 7 4 e 6 7 0 a 5 0 6 7 5 0 -6 7 -5 0 6 -7 5 0 -6 -7 5 0" "4D 52 50 01 00 07 00 01 01 00 00 00 00 00 00 01 02 00 00 00 00 00 00 01 03 00 00 00 00 00 00 01 04 00 00 00 00 00 00 02 01 00 02 00 06 01 00 02 03 00 04 00 06 01 00 02 05 00 06 00 07 00 00" 31 7 5
+    ∷ with-proof "p cnf 7 4 e 6 7 0 a 5 0 6 7 5 0 -6 7 -5 0 6 -7 -5 0 -6 -7 -5 0" "4D 52 50 01 00 07 00 01 01 00 00 00 00 00 00 01 02 00 00 00 00 00 00 01 03 00 00 00 00 00 00 01 04 00 00 00 00 00 00 02 01 00 02 00 06 01 00 02 03 00 04 00 06 01 00 02 05 00 06 00 07 00 00" 31 7 5
+    ∷ with-proof "p cnf 4 4 e 1 3 4 0 a 2 0 1 3 2 0 -1 3 -2 0 4 -3 2 0 -4 -3 -2 0" "4D 52 50 01 00 07 00 01 01 00 00 00 00 00 00 01 02 00 00 00 00 00 00 01 03 00 00 00 00 00 00 01 04 00 00 00 00 00 00 02 01 00 02 00 01 01 00 02 03 00 04 00 04 01 00 02 05 00 06 00 03 00 00" 31 7 2
+    ∷ with-proof "p cnf 6 7 e 1 2 3 5 6 0 a 4 0 5 4 0 -5 2 3 0 -5 1 -2 3 0 -1 -2 3 -4 0 2 -3 4 0 1 -2 -3 4 0 -1 -2 -3 -4 0" "4D 52 50 01 00 0E 00 01 01 00 00 00 00 00 00 01 02 00 00 00 00 00 00 02 01 00 02 00 05 00 00 01 03 00 00 00 00 00 00 02 01 00 04 00 05 00 00 01 04 00 00 00 00 00 00 02 05 00 06 00 01 01 00 02 03 00 07 00 02 01 00 01 05 00 00 00 00 00 00 01 06 00 00 00 00 00 00 01 07 00 00 00 00 00 00 02 0A 00 0B 00 01 01 00 02 09 00 0C 00 02 01 00 02 08 00 0D 00 03 00 00" 31 14 4
+    ∷ with-proof "p cnf 3 3 e 1 3 0 a 2 0 1 3 0 -1 3 0 -3 2 0" "4D 52 50 01 00 05 00 01 01 00 00 00 00 00 00 01 02 00 00 00 00 00 00 01 03 00 00 00 00 00 00 02 01 00 02 00 01 01 00 02 04 00 03 00 03 00 00" 31 5 2
     ∷ []
 
 -- checking answers so
@@ -242,11 +284,11 @@ pub record Told-apart : Type 0 where
   -- what reading leaves: filled, zero, as it came
   pub read-reply : reads (text "p cnf 64 2 a 64 0 e 3 1 0 64 -3 0 -64 1 -64 0") .reply
       ≡ record { number = 0; place = 0; variable = 0; variables = 64; clauses = 2; universals = 1; lines = 0 }
-  pub read-prefix : read-leaves (text "p cnf 64 2 a 64 0 e 3 1 0 64 -3 0 -64 1 -64 0") .prefix ≡ 320 ∷ 3 ∷ 1 ∷ replicate 61 0 ++ (9 ∷ [])
-  pub read-clauses : read-leaves (text "p cnf 64 2 a 64 0 e 3 1 0 64 -3 0 -64 1 -64 0") .clauses
+  pub filled-prefix : read-prefix (text "p cnf 64 2 a 64 0 e 3 1 0 64 -3 0 -64 1 -64 0") ≡ 320 ∷ 3 ∷ 1 ∷ replicate 61 0 ++ (9 ∷ [])
+  pub filled-clauses : read-clauses (text "p cnf 64 2 a 64 0 e 3 1 0 64 -3 0 -64 1 -64 0")
       ≡ 9223372036854775808 ∷ 4 ∷ 1 ∷ 9223372036854775808 ∷ replicate 508 0 ++ (9 ∷ [])
-  pub unread-prefix : read-leaves (text "p cnf 2 1 e 1 0 2 0") .prefix ≡ replicate 64 0 ++ (9 ∷ [])
-  pub unread-clauses : read-leaves (text "p cnf 2 1 e 1 0 2 0") .clauses ≡ replicate 512 0 ++ (9 ∷ [])
+  pub unread-prefix : read-prefix (text "p cnf 2 1 e 1 0 2 0") ≡ replicate 64 0 ++ (9 ∷ [])
+  pub unread-clauses : read-clauses (text "p cnf 2 1 e 1 0 2 0") ≡ replicate 512 0 ++ (9 ∷ [])
   -- what a refused check leaves
   pub refused-prefix : leaves G (hex "4D") .prefix ≡ replicate 64 0 ++ (9 ∷ [])
   pub refused-clauses : leaves G (hex "4D") .clauses ≡ replicate 512 0 ++ (9 ∷ [])
@@ -281,6 +323,15 @@ pub record Told-apart : Type 0 where
   pub wide-leaves : row-of 16 2 (leaves (text wide) (hex wide-proof) .nodes) ≡ 2 ∷ 3 ∷ replicate 14 0
   pub wide-roots : row-of 16 3 (leaves (text wide) (hex wide-proof) .roots) ≡ 3 ∷ 3 ∷ replicate 14 0
   pub wide-lines : leaves (text wide) (hex wide-proof) .lines ≡ 9223372036854775808 ∷ 0 ∷ 0 ∷ 9223372036854775808 ∷ replicate 2044 0 ++ (9 ∷ [])
+  -- the last universal, bit 15 of the merge set
+  pub last-nodes : row-of 16 3 (leaves (text "p cnf 17 2 e 17 0 a 1 2 3 4 5 6 7 8 9 10 11 12 13 14 15 16 0 17 16 0 -17 -16 1 0") (hex "4D 52 50 01 00 03 00 01 01 00 00 00 00 00 00 01 02 00 00 00 00 00 00 02 01 00 02 00 11 00 80") .nodes) ≡ replicate 15 0 ++ (1090519041 ∷ [])
+  pub last-roots : row-of 16 3 (leaves (text "p cnf 17 2 e 17 0 a 1 2 3 4 5 6 7 8 9 10 11 12 13 14 15 16 0 17 16 0 -17 -16 1 0") (hex "4D 52 50 01 00 03 00 01 01 00 00 00 00 00 00 01 02 00 00 00 00 00 00 02 01 00 02 00 11 00 80") .roots) ≡ replicate 15 2 ++ (3 ∷ [])
+  -- select: b's root where a's map is one star leaf, a's where b's is, a's where both are zero
+  pub select-roots : row-of 16 3 (leaves (text "p cnf 3 2 a 2 0 e 1 0 a 3 0 1 -3 0 -1 2 0") (hex "4D 52 50 01 00 03 00 01 01 00 00 00 00 00 00 01 02 00 00 00 00 00 00 02 01 00 02 00 01 00 00") .roots) ≡ 2 ∷ 1 ∷ replicate 14 0
+  pub select-zero : row-of 16 3 (leaves (text "p cnf 2 2 e 1 0 a 2 0 1 2 0 -1 2 0") (hex "4D 52 50 01 00 03 00 01 01 00 00 00 00 00 00 01 02 00 00 00 00 00 00 02 01 00 02 00 01 00 00") .roots) ≡ alone 1
+  pub isomorphic-nodes : row-of 16 6 (leaves (text "p cnf 7 4 e 6 7 0 a 5 0 6 7 5 0 -6 7 -5 0 6 -7 5 0 -6 -7 -5 0") (hex "4D 52 50 01 00 07 00 01 01 00 00 00 00 00 00 01 02 00 00 00 00 00 00 01 03 00 00 00 00 00 00 01 04 00 00 00 00 00 00 02 01 00 02 00 06 01 00 02 03 00 04 00 06 01 00 02 05 00 06 00 07 00 00") .nodes) ≡ alone 1078986755
+  pub isomorphic-root : row-of 16 7 (leaves (text "p cnf 7 4 e 6 7 0 a 5 0 6 7 5 0 -6 7 -5 0 6 -7 5 0 -6 -7 -5 0") (hex "4D 52 50 01 00 07 00 01 01 00 00 00 00 00 00 01 02 00 00 00 00 00 00 01 03 00 00 00 00 00 00 01 04 00 00 00 00 00 00 02 01 00 02 00 06 01 00 02 03 00 04 00 06 01 00 02 05 00 06 00 07 00 00") .roots) ≡ alone 5
+  pub wide-resolvent : row-of 2 3 (leaves (text "p cnf 64 3 e 1 64 0 1 64 0 -64 0 -1 0") (hex "4D 52 50 01 00 05 00 01 01 00 00 00 00 00 00 01 02 00 00 00 00 00 00 02 01 00 02 00 40 00 00 01 03 00 00 00 00 00 00 02 03 00 04 00 01 00 00") .lines) ≡ 1 ∷ 0 ∷ []
   -- tables too short, and a text too long
   pub short-prefix : checking [] [] (record { prefix = replicate 63 9; clauses = replicate 512 9; lines = replicate 2048 9; nodes = replicate 16384 9; roots = replicate 16384 9 }) .reply ≡ refusal 2 0 0
   pub short-clauses : checking [] [] (record { prefix = replicate 64 9; clauses = replicate 511 9; lines = replicate 2048 9; nodes = replicate 16384 9; roots = replicate 16384 9 }) .reply ≡ refusal 2 0 0
@@ -288,9 +339,9 @@ pub record Told-apart : Type 0 where
   pub short-nodes : checking [] [] (record { prefix = replicate 64 9; clauses = replicate 512 9; lines = replicate 2048 9; nodes = replicate 16383 9; roots = replicate 16384 9 }) .reply ≡ refusal 2 0 0
   pub short-roots : checking [] [] (record { prefix = replicate 64 9; clauses = replicate 512 9; lines = replicate 2048 9; nodes = replicate 16384 9; roots = replicate 16383 9 }) .reply ≡ refusal 2 0 0
   pub just-long-enough : checking [] [] (record { prefix = replicate 64 9; clauses = replicate 512 9; lines = replicate 2048 9; nodes = replicate 16384 9; roots = replicate 16384 9 }) .reply ≡ refusal 3 0 0
-  pub read-short-prefix : reading [] (record { prefix = replicate 63 9; clauses = replicate 512 9; lines = []; nodes = []; roots = [] }) .reply ≡ refusal 2 0 0
-  pub read-short-clauses : reading [] (record { prefix = replicate 64 9; clauses = replicate 511 9; lines = []; nodes = []; roots = [] }) .reply ≡ refusal 2 0 0
-  pub read-just-enough : reading [] (record { prefix = replicate 64 9; clauses = replicate 512 9; lines = []; nodes = []; roots = [] }) .reply ≡ refusal 3 0 0
+  pub read-short-prefix : reading [] (replicate 63 9) (replicate 512 9) .reply ≡ refusal 2 0 0
+  pub read-short-clauses : reading [] (replicate 64 9) (replicate 511 9) .reply ≡ refusal 2 0 0
+  pub read-just-enough : reading [] (replicate 64 9) (replicate 512 9) .reply ≡ refusal 3 0 0
   pub long-text : checks (replicate 65537 32) [] .reply ≡ refusal 1 0 0
   pub longest-text : checks (replicate 65536 32) [] .reply ≡ refusal 3 65536 0
   pub long-read : reads (replicate 65537 32) .reply ≡ refusal 1 0 0
@@ -320,13 +371,13 @@ pub record Told-apart : Type 0 where
   pub play-longer : playing-of 1 1 16385 ≡ value 1
 
 pub told-apart : Told-apart
-unfolding prints texts all-read proofs all-checked reads read-leaves leaves checks plays plays-second playing-of G reading checking
+unfolding prints texts all-read proofs all-checked reads read-prefix read-clauses leaves checks plays plays-second playing-of G reading checking
 told-apart = record {
   texts = refl;
   proofs = refl;
   read-reply = refl;
-  read-prefix = refl;
-  read-clauses = refl;
+  filled-prefix = refl;
+  filled-clauses = refl;
   unread-prefix = refl;
   unread-clauses = refl;
   refused-prefix = refl;
@@ -355,6 +406,13 @@ told-apart = record {
   wide-leaves = refl;
   wide-roots = refl;
   wide-lines = refl;
+  last-nodes = refl;
+  last-roots = refl;
+  select-roots = refl;
+  select-zero = refl;
+  isomorphic-nodes = refl;
+  isomorphic-root = refl;
+  wide-resolvent = refl;
   short-prefix = refl;
   short-clauses = refl;
   short-lines = refl;

@@ -21,7 +21,7 @@ use Rattle.rules.specs.File.{pair-at, head-fault, split, records, decode
 use Rattle.rules.specs.Maps.{Isomorphic, node-word, node-of, walk-over, walk, pair, compare, visit, pass, isomorphic}
 use Rattle.rules.specs.Lines.{row-at, each, axiom-row, select, resolution-row, line-faults, line-row, line-made, next-line}
 use Rattle.rules.specs.Checking.{lines-from, all-lines, checked-by}
-use Rattle.rules.specs.Tables.{padded, rows-of, holding}
+use Rattle.rules.specs.Tables.{padded, rows-of, holding, prefix-after, clauses-after}
 use Rattle.rules.specs.Services.{Lent, refusal, Answer, checking, reading, after, table-column, playing}
 use Rattle.rules.specs.Bytes.{text, hex}
 use Rattle.rules.specs.Report.{digits-before, decimal, reached-from, nodes-falling, joined, map-lines, refused-line, accepted-text, printed}
@@ -43,11 +43,16 @@ leaves t p = after (checks t p .leaves) lent
 -- reading, and what it leaves
 unfoldable pub reads : List ℕ → Answer
 unfolding checks reading
-reads t = reading t lent
+reads t = reading t (lent .prefix) (lent .clauses)
 
-unfoldable pub read-leaves : List ℕ → Lent
-unfolding reads padded rows-of holding after
-read-leaves t = after (reads t .leaves) lent
+-- the prefix table, and the clause table, after reading
+unfoldable pub read-prefix : List ℕ → List ℕ
+unfolding reads padded rows-of holding
+read-prefix t = prefix-after (reads t .leaves) (lent .prefix)
+
+unfoldable pub read-clauses : List ℕ → List ℕ
+unfolding reads padded rows-of holding
+read-clauses t = clauses-after (reads t .leaves) (lent .clauses)
 
 -- playing column 1 of the nodes that checking left
 unfoldable pub plays : ℕ → List ℕ → ℕ → Played

@@ -48,10 +48,6 @@ when-passed last F (stopped n i v) = rejected n i v
 abbrev pub proof-lines : (Formula → Rules) → (Formula → List Row → Checked) → Form → Formula → List ℕ → Checked
 proof-lines rules last form F proof = when-passed last F (all-lines (rules F) F (records form (length (universals (F .prefix))) proof))
 
-abbrev pub when-headed : Found → Checked → Checked
-when-headed passes c = c
-when-headed (fails n v) c = rejected n 0 v
-
 abbrev pub proof-checked : (Formula → Rules) → (Formula → List Row → Checked) → Form → Formula → List ℕ → Checked
 proof-checked rules last form F proof =
     elim (head-fault form (length (universals (F .prefix))) proof) [ passes ↦ proof-lines rules last form F proof | fails n v ↦ rejected n 0 v ]

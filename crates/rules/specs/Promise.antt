@@ -20,8 +20,8 @@ use Rattle.rules.specs.Checking.{Checked, checked}
 use Rattle.rules.specs.Checking.Checked.{rejected, accepted}
 use Rattle.rules.specs.Tables.{Leaves}
 use Rattle.rules.specs.Tables.Leaves.{untouched, zeroed, filled}
-use Rattle.rules.specs.Services.{Lent, Answer, success, check-answer, refused-early, short-tables, checking, read-answer, reading, short}
-use Rattle.rules.specs.Listed.{check-listed, text-listed}
+use Rattle.rules.specs.Services.{Lent, Answer, success, check-answer, refused-early, short-tables, checking}
+use Rattle.rules.specs.Listed.{check-listed}
 use Rattle.rules.specs.Countermodel.{accepted-false}
 use Rattle.rules.specs.Bytes.{text, hex}
 use Rattle.rules.specs.Cases.{checks, G, proof-G}

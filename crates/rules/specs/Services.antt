@@ -20,7 +20,7 @@ use Rattle.rules.specs.Checking.Checked.{rejected, accepted}
 use Rattle.rules.specs.Tables.{Leaves, prefix-after, clauses-after, lines-after, nodes-after, roots-after}
 use Rattle.rules.specs.Tables.Leaves.{untouched, zeroed, filled}
 
--- the tables that checking takes, as lent; reading takes the first two
+-- the tables that checking takes, as lent
 pub record Lent : Type 0 where
   pub prefix : List ℕ
   pub clauses : List ℕ
@@ -62,9 +62,10 @@ short n t = ltb (length t) n
 abbrev pub refused-early : ℕ → Answer
 refused-early n = record { reply = refusal n 0 0; leaves = untouched }
 
-unfoldable pub reading : List ℕ → Lent → Answer
-reading text T =
-    elim (short prefix-words (T .prefix) || short clause-words (T .clauses)) [
+-- reading takes the prefix and clause tables only
+unfoldable pub reading : List ℕ → List ℕ → List ℕ → Answer
+reading text prefix clauses =
+    elim (short prefix-words prefix || short clause-words clauses) [
       | true ↦ refused-early short-table
       | false ↦ elim (ltb text-most (length text)) [ true ↦ refused-early long-text | false ↦ read-answer (read text) ]
     ]
@@ -86,7 +87,7 @@ checking text proof T =
       | false ↦ elim (ltb text-most (length text)) [ true ↦ refused-early long-text | false ↦ check-answer (checked text proof) ]
     ]
 
--- the tables after an answer
+-- the tables after checking's answer
 unfoldable pub after : Leaves → Lent → Lent
 after l T = record {
   prefix = prefix-after l (T .prefix);
