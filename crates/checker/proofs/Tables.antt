@@ -105,7 +105,6 @@ module _ (n : ℕ) (ws lent : List ℕ) where
 
 -- the part from a to b of a table, lent and come back as r
 pub came-back : (t ys r : List ℕ) (a b : ℕ) → a ≤ b → ys ≡ r → putMid a (b - a) t ys ≡ take a t ++ (r ++ drop b t)
-unfolding putMid
 came-back t ys r a b h e =
     let k : a + (b - a) ≡ b = omega arith in
     rw (e, drop-drop) (rw k)
