@@ -1,0 +1,12 @@
+-- What a function that prints into a buffer leaves: a text more, and nothing else changed.
+use mathlib.Core.Path.{_≡_}
+use mathlib.Core.List.{List, _++_}
+use Prim.Native.Nat.{ℕ, _+_}
+use lib.ListN.{length, take, drop}
+
+-- the text stands behind the first `at` bytes, `next` is past it, and what lies past it is as it was
+pub record Appended (before after : List ℕ) (at next : ℕ) (text : List ℕ) : Type 0 where
+  pub next-is : next ≡ at + length text
+  pub written : take next after ≡ take at before ++ text
+  pub rest : drop next after ≡ drop next before
+  pub same-length : length after ≡ length before

@@ -1,0 +1,2 @@
+// What the bench program prints, assembled in a lent buffer.
+mod text;
