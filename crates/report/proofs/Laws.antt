@@ -45,8 +45,8 @@ further a b m n h e =
     ap (λ (k : ℕ). drop k a) (sym z) ∙ sym (drop-drop (n - m) m a) ∙ ap (drop (n - m)) e ∙ drop-drop (n - m) m b ∙ ap (λ (k : ℕ). drop k b) z
 
 -- a text and then another
-pub then : (a b d : List ℕ) (at m r : ℕ) (t u : List ℕ) → Appended a b at m t → Appended b d m r u → Appended a d at r (t ++ u)
-then a b d at m r t u A B = record {
+pub then : {a b d : List ℕ} {at m r : ℕ} {t u : List ℕ} → Appended a b at m t → Appended b d m r u → Appended a d at r (t ++ u)
+then {a} {b} {d} {at} {m} {r} {t} {u} A B = record {
   next-is = omega (arith, A .next-is, B .next-is, length-append t u);
   written = B .written ∙ ap (λ (l : List ℕ). l ++ u) (A .written) ∙ append-assoc (take at a) t u;
   rest = B .rest ∙ further b a m r (omega (arith, B .next-is)) (A .rest);
@@ -149,12 +149,12 @@ digits-more n d ds (suc from) left D k f =
       ten = length-set ds from d ∙ D .ten;
       last = getD-set-same ds from d 0 (omega (arith, D .inside)) ∙ f;
       number =
-        ap (in-front (left / 10))
-        (drop-set-lt (suc from) ds from d (omega arith)
-        ∙ drop-cons ds (suc from) 0 (D .inside)
-        ∙ ap (λ (x : ℕ). x ∷ drop (suc (suc from)) ds) (D .last))
-        ∙ sym (in-front-more left (drop (suc (suc from)) ds) k)
-        ∙ D .number;
+          ap (in-front (left / 10))
+          (drop-set-lt (suc from) ds from d (omega arith)
+          ∙ drop-cons ds (suc from) 0 (D .inside)
+          ∙ ap (λ (x : ℕ). x ∷ drop (suc (suc from)) ds) (D .last))
+          ∙ sym (in-front-more left (drop (suc (suc from)) ds) k)
+          ∙ D .number;
     })
 
 -- at the last digit all of them stand there

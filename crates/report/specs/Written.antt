@@ -3,6 +3,8 @@ use mathlib.Core.Path.{_≡_}
 use mathlib.Core.List.{List, _++_}
 use Prim.Native.Nat.{ℕ, _+_}
 use lib.ListN.{length, take, drop}
+use Rattle.rules.specs.declared.Node.{Node}
+use Rattle.rules.specs.Report.{decimal, node-text, line}
 
 -- the text stands behind the first `at` bytes, `next` is past it, and what lies past it is as it was
 pub record Appended (before after : List ℕ) (at next : ℕ) (text : List ℕ) : Type 0 where
@@ -10,3 +12,7 @@ pub record Appended (before after : List ℕ) (at next : ℕ) (text : List ℕ) 
   pub written : take next after ≡ take at before ++ text
   pub rest : drop next after ≡ drop next before
   pub same-length : length after ≡ length before
+
+-- the line of node k, which is n
+abbrev pub numbered : ℕ → Node → List ℕ
+numbered k n = line (decimal k ++ node-text n)

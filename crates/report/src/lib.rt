@@ -1,2 +1,3 @@
 // What the bench program prints, assembled in a lent buffer.
+mod nodes;
 mod text;

@@ -28,7 +28,7 @@ fn last_digit(n: u32) -> u8
 // The number in decimal, put behind the first `at` bytes of out.
 pub fn put_decimal(out: &mut [u8], at: usize, n: u32) -> usize
     requires { ⌜ at + 10 ≤ length (now out) ⌝ }
-    ensures { λ r. ⌜ Appended (now (out .entry)) (now (out .exit)) at r (decimal n) ⌝ }
+    ensures { λ r. ⌜ (Appended (now (out .entry)) (now (out .exit)) at r (decimal n)) × (r ≤ at + 10) ⌝ }
 {
     let mut digits = [0u8; 10];
     let mut from = 9;

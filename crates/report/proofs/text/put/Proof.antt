@@ -36,18 +36,19 @@ loop-less : tie.Need-loop-less Inv-loop μ-loop
 loop-less c = omega arith
 
 loop-again : tie.Need-loop-again Inv-loop μ-loop
-loop-again c =
-    (turn
-    (c .before .before .before .args .out .now)
-    (c .before .before .loop .out)
-    (c .before .before .before .args .bytes .now)
-    (c .before .before .before .args .at)
-    (c .before .before .loop .i)
-    (c .before .before .loop .inv .0)
-    (omega arith)
-    (omega arith),
-    omega arith,
-    simp length-set (c .before .before .loop .inv .2))
+loop-again c = (
+  turn
+      (c .before .before .before .args .out .now)
+      (c .before .before .loop .out)
+      (c .before .before .before .args .bytes .now)
+      (c .before .before .before .args .at)
+      (c .before .before .loop .i)
+      (c .before .before .loop .inv .0)
+      (omega arith)
+      (omega arith),
+  omega arith,
+  simp length-set (c .before .before .loop .inv .2),
+)
 
 add-result : tie.Need-add-result Inv-loop μ-loop
 add-result c = omega arith

@@ -6,7 +6,7 @@ use borrow.Author.Needs.{needs}
 use mathlib.Core.List.{List}
 use lib.ListN.{length, take, drop, replicate, length-take, length-drop}
 use lib.Seq.{take-all}
-use Rattle.report.proofs.Laws.{Digits, digits-begin, room-left, digits-more, digits-end, retext}
+use Rattle.report.proofs.Laws.{Digits, digits-begin, room-left, digits-more, digits-end, length-decimal, retext}
 use Rattle.report.proofs.text.put_decimal.Statement.{statement}
 use Rattle.report.proofs.text.put_decimal.Tie as tie
 use Rattle.report.proofs.text.put_decimal.Reads as reads
@@ -69,7 +69,9 @@ same-length : tie.Need-same-length Inv-loop μ-loop
 same-length c = search needs
 
 returns : tie.Need-returns Inv-loop μ-loop
-returns c = retext (whole (c .before .before .before .before .before .before .before .loop .digits) (c .before .before .before .before .before .before .before .loop .from) (c .before .before .before .before .before .before .before .loop .left) (c .before .before .before .before .before .before .before .loop .inv) (omega arith)) (c .before .before .put .ensures)
+returns c =
+    let A = retext (whole (c .before .before .before .before .before .before .before .loop .digits) (c .before .before .before .before .before .before .before .loop .from) (c .before .before .before .before .before .before .before .loop .left) (c .before .before .before .before .before .before .before .loop .inv) (omega arith)) (c .before .before .put .ensures) in
+    (A, omega (arith, A .next-is, length-decimal (c .before .before .before .before .before .before .before .before .before .before .args .n) (omega arith)))
   where
     whole : (ds : List ℕ) (from left : ℕ) → Digits (c .before .before .before .before .before .before .before .before .before .before .args .n) ds from left → left < 10
         → take (10 - from) (drop from ds) ≡ Rattle.rules.specs.Report.decimal (c .before .before .before .before .before .before .before .before .before .before .args .n)
