@@ -5,13 +5,16 @@ use rules::Played;
 use rules::Value;
 use sets::Set;
 ghost use mathlib.Core.Path.{_≡_};
-ghost use Prim.Native.Nat.{_+_};
+ghost use mathlib.Core.Bool.{true};
+ghost use Prim.Native.Nat.{_+_, _≤_};
+ghost use Rattle.rules.specs.Limits.{lines-most};
 ghost use Rattle.rules.specs.Sets.{has};
 ghost use Rattle.sets.specs.Values.{set-of};
-ghost use Rattle.rules.specs.Maps.{node-of, node-word, value-word, star?, walk};
+ghost use Rattle.rules.specs.Maps.{node-of, node-word, value-word, star?, walk, pair, compare, visit, isomorphic};
 ghost use Rattle.rules.specs.MapLaws.{In-range};
 ghost use Rattle.rules.specs.Services.{table-column, playing};
 ghost use Rattle.maps.specs.Playing.{next, falls, outcome, Place};
+ghost use Rattle.maps.specs.Comparing.{held, Partners, Stands, leaf-with};
 
 // The node that a word stands for.
 pub fn read_node(word: u32) -> Node
@@ -174,4 +177,121 @@ pub fn play(column: u32, root: u32, nodes: &[u32], settings: Set) -> Played
             value: 0,
         },
     }
+}
+
+// Makes nodes a and c partners if neither has one: true where they are partners now.
+fn pair_up(to: &mut [u16; 1024], from: &mut [u16; 1024], a: u32, c: u32) -> bool
+    requires { ⌜ Partners (now to) (now from) × ((1 ≤ a) × (a ≤ lines-most)) × ((1 ≤ c) × (c ≤ lines-most)) ⌝ }
+    ensures { λ r. ⌜ Stands (pair (held true (now (to .entry)) (now (from .entry))) a c) r (now (to .exit)) (now (from .exit)) ⌝ }
+{
+    let p = a as u16;
+    let q = c as u16;
+    let i = (a - 1) as usize;
+    let k = (c - 1) as usize;
+    let x = to[i];
+    let y = from[k];
+    if x == 0 {
+        if y == 0 {
+            to[i] = q;
+            from[k] = p;
+            return true;
+        }
+        return false;
+    }
+    if x == q {
+        return y == p;
+    }
+    false
+}
+
+// The node is a leaf with the value v.
+fn same_leaf(v: Value, n: Node) -> bool
+    ensures { λ r. ⌜ r ≡ leaf-with v n ⌝ }
+{
+    match n {
+        Node::None => false,
+        Node::Leaf(w) => match v {
+            Value::Star => match w {
+                Value::Star => true,
+                Value::One => false,
+                Value::Zero => false,
+            },
+            Value::One => match w {
+                Value::Star => false,
+                Value::One => true,
+                Value::Zero => false,
+            },
+            Value::Zero => match w {
+                Value::Star => false,
+                Value::One => false,
+                Value::Zero => true,
+            },
+        },
+        Node::Branch { x: _, a: _, b: _ } => false,
+    }
+}
+
+// Two partners: leaves agree; branches have the same variable, and their ends become partners.
+fn compare_nodes(to: &mut [u16; 1024], from: &mut [u16; 1024], m: Node, n: Node) -> bool
+    requires { ⌜ Partners (now to) (now from) × In-range m × In-range n ⌝ }
+    ensures { λ r. ⌜ Stands (compare (held true (now (to .entry)) (now (from .entry))) m n) r (now (to .exit)) (now (from .exit)) ⌝ }
+{
+    match m {
+        Node::None => false,
+        Node::Leaf(v) => same_leaf(v, n),
+        Node::Branch { x, a, b } => match n {
+            Node::None => false,
+            Node::Leaf(_) => false,
+            Node::Branch { x: y, a: c, b: d } => {
+                if x != y {
+                    return false;
+                }
+                if !pair_up(to, from, a, c) {
+                    return false;
+                }
+                pair_up(to, from, b, d)
+            }
+        },
+    }
+}
+
+// Node i, if it has a partner: the two are compared.
+fn visit_node(
+    to: &mut [u16; 1024],
+    from: &mut [u16; 1024],
+    nodes: &[u32],
+    column: usize,
+    i: u32,
+) -> bool
+    requires { ⌜ Partners (now to) (now from) × Place (now nodes) column i ⌝ }
+    ensures { λ r. ⌜ Stands (visit (table-column (now (nodes .entry)) (column + 1)) (table-column (now (nodes .entry)) (column + 1)) i (held true (now (to .entry)) (now (from .entry)))) r (now (to .exit)) (now (from .exit)) ⌝ }
+{
+    let k = (i - 1) as usize;
+    let j = to[k] as u32;
+    if j == 0 {
+        return true;
+    }
+    let m = node_at(nodes, column, i);
+    let n = node_at(nodes, column, j);
+    compare_nodes(to, from, m, n)
+}
+
+// The maps at r and t of a column are isomorphic: one pass by falling number over a pairing.
+pub fn isomorphic(nodes: &[u32], column: usize, r: u32, t: u32) -> bool
+    requires { ⌜ Place (now nodes) column r × Place (now nodes) column t ⌝ }
+    ensures { λ o. ⌜ o ≡ isomorphic (table-column (now (nodes .entry)) (column + 1)) r (table-column (now (nodes .entry)) (column + 1)) t ⌝ }
+{
+    let mut to = [0u16; 1024];
+    let mut from = [0u16; 1024];
+    if !pair_up(&mut to, &mut from, r, t) {
+        return false;
+    }
+    let mut i = r;
+    while 0 < i {
+        if !visit_node(&mut to, &mut from, nodes, column, i) {
+            return false;
+        }
+        i -= 1;
+    }
+    true
 }
