@@ -1,37 +1,40 @@
 -- Demands 2 and 3 read off the services alone: what an answer 0 of checking says, and what playing then gives.
 use mathlib.Core.Path.{_≡_, refl, sym, ap, _∙_, subst}
 use mathlib.Core.Bool.{Bool, true, false, _||_}
-use mathlib.Core.List.{List, [], _∷_, List·Memᴰ}
+use mathlib.Core.List.{List, [], _∷_}
 use Prim.Native.Nat.{ℕ, zero, suc, _+_, _-_, _*_, _≤_, _<_}
 use native.Mathlib.Omega.{arith}
 use lib.ListN.{length, getD}
+use borrow.Author.Tests.{ltb-false}
+use lib.Dec.{eqb, ltb}
 use Rattle.rules.specs.declared.Value.{Value}
+use Rattle.rules.specs.declared.Value.the-variants.{Star, One, Zero}
 use Rattle.rules.specs.declared.Reply.{Reply}
 use Rattle.rules.specs.declared.Played.{Played}
-use Rattle.rules.specs.Limits.{universals-most, lines-most, map-words}
-use Rattle.rules.specs.Sets.{Set, has}
-use Rattle.rules.specs.Formula.{Quant, Clause, Formula, Satisfies, False, bound-by, universals, left-of}
+use Rattle.rules.specs.Limits.{universals-most, map-words, prefix-words, clause-words, line-words}
+use Rattle.rules.specs.Sets.{has}
+use Rattle.rules.specs.Formula.{Quant, Formula, False, bound-by, universals, left-of}
 use Rattle.rules.specs.Formula.Quant.{exists, forall}
 use Rattle.rules.specs.Reading.{Reading, read}
 use Rattle.rules.specs.Reading.Reading.{unread, formula}
+use Rattle.rules.specs.File.{announced}
 use Rattle.rules.specs.Maps.{plays, value-word, as-bool}
-use Rattle.rules.specs.Lines.{Row, house, column, root-at}
-use Rattle.rules.specs.Checking.{checked}
-use Rattle.rules.specs.Checking.Checked.{accepted}
+use Rattle.rules.specs.Lines.{Row, no-row, house, column, root-at}
 use Rattle.rules.specs.Tables.{rows-of, node-row, root-row, holding, Leaves, nodes-after, roots-after}
-use Rattle.rules.specs.Tables.Leaves.{filled}
-use Rattle.rules.specs.Services.{Lent, Answer, success, checking, playing}
-use Rattle.rules.specs.Proper.{Proper}
-use Rattle.rules.specs.Good.{Good}
-use Rattle.rules.specs.Strategy.{played}
-use Rattle.rules.specs.Countermodel.{Countermodel, accepted-good, accepted-wins, accepted-false, last-root}
+use Rattle.rules.specs.Services.{Lent, Answer, success, checking, playing, short}
+use Rattle.rules.specs.GoodLaws.{neither}
+use Rattle.rules.specs.TableLaws.{rows-length, holding-length}
+use Rattle.rules.specs.TablePlays.{nodes-wide, table-root-rows, table-plays}
+use Rattle.rules.specs.Countermodel.{Countermodel, last-root, accepted-good, accepted-lines, accepted-wins, accepted-false}
 use Rattle.rules.specs.Paper.{Refutation}
 use Rattle.rules.specs.Named.{Left-in}
 use Rattle.rules.specs.Exact.{paper-lines, published}
-use Rattle.rules.specs.File.{announced}
-use Rattle.rules.specs.TablePlays.{table-root-rows, table-plays}
 use Rattle.rules.specs.Promise.{Answered, answered-zero}
 use Rattle.malintok.specs.Calls.{Check-call, Play-call}
+
+-- the universal at offset j, in the words of the root table: the last line's root
+abbrev pub last-root-word : Reply → List ℕ → ℕ → ℕ
+last-root-word r roots j = getD roots (universals-most * (r .lines - 1) + j) 0
 
 -- what a call of checking that answered 0 says
 module _ (text proof : List ℕ) (T : Lent) (r : Reply) (p c l n t : List ℕ) (call : Check-call text proof T r p c l n t) (zero-said : r .number ≡ 0) where
@@ -64,3 +67,70 @@ module _ (text proof : List ℕ) (T : Lent) (r : Reply) (p c l n t : List ℕ) (
   pub countermodel : Countermodel (left-of (the-formula .prefix)) the-formula the-rows
   unfolding the-formula the-rows
   countermodel = accepted-wins text proof (answered .formula-is) (answered .rows) (answered .accepts) .1
+
+  few : (1 ≤ length (answered .rows)) × (length (answered .rows) ≤ 1024)
+  few = accepted-lines text proof (answered .formula-is) (answered .rows) (answered .accepts)
+
+  nodes-held : n ≡ holding map-words (rows-of node-row (answered .rows)) (T .nodes)
+  nodes-held = call .nodes-left ∙ ap (λ (a : Answer). nodes-after (a .leaves) (T .nodes)) (answered .answer)
+
+  roots-held : t ≡ holding map-words (rows-of root-row (answered .rows)) (T .roots)
+  roots-held = call .roots-left ∙ ap (λ (a : Answer). roots-after (a .leaves) (T .roots)) (answered .answer)
+
+  nodes-long : map-words ≤ length (T .nodes)
+  nodes-long =
+      let a = neither (short prefix-words (T .prefix)) _ (answered .long) .1 in
+      let b = neither (short clause-words (T .clauses)) _ a .1 in
+      let d = neither (short line-words (T .lines)) _ b .1 in
+      ltb-false (length (T .nodes)) map-words (neither (short map-words (T .nodes)) _ d .0)
+
+  rows-fit : length (rows-of node-row (answered .rows)) ≤ map-words
+  unfolding map-words
+  rows-fit =
+      let P = accepted-good text proof (answered .formula-is) (answered .rows) (answered .accepts) in
+      omega (arith, few, rows-length universals-most node-row no-row (answered .rows) (nodes-wide (house (answered .formula-is)) (answered .formula-is) (P .0) (answered .rows) (P .1)))
+
+  long-after : map-words ≤ length n
+  long-after = omega (arith, nodes-long, ap length nodes-held ∙ holding-length map-words (rows-of node-row (answered .rows)) (T .nodes) rows-fit nodes-long)
+
+  module _ (j : ℕ) (present : j < length (universals (the-formula .prefix))) where
+    in-formula : j < length (universals (answered .formula-is .prefix))
+    unfolding the-formula
+    in-formula = present
+
+    -- the word of the root table is the last line's root
+    root-is : last-root-word r t j ≡ last-root (answered .rows) j
+    unfolding the-rows
+    root-is =
+        let P = accepted-good text proof (answered .formula-is) (answered .rows) (answered .accepts) in
+        let m : suc (length (answered .rows) - 1) ≡ length (answered .rows) = omega (arith, few) in
+        ap (λ (q : ℕ). getD t (universals-most * (q - 1) + j) 0) line-count
+        ∙ table-root-rows (house (answered .formula-is)) (answered .formula-is) (P .0) (answered .rows) (P .1) (few .1) j in-formula (T .roots) t roots-held (length (answered .rows) - 1) (omega (arith, few))
+        ∙ ap (root-at (answered .rows) j) m
+
+    -- playing the last map is never refused, and gives the definition's value
+    pub play-last : (settings : ℕ) (q : Played) → Play-call (suc j) (last-root-word r t j) n settings q
+        → q ≡ record { number = 0; value = value-word (plays (column the-rows j) (has (settings ∷ [])) (last-root the-rows j)) }
+    unfolding the-rows
+    play-last settings q e =
+        let P = accepted-good text proof (answered .formula-is) (answered .rows) (answered .accepts) in
+        e
+        ∙ ap (λ (w : ℕ). playing (suc j) w n (settings ∷ [])) root-is
+        ∙ table-plays (house (answered .formula-is)) (answered .formula-is) (P .0) (answered .rows) (P .1) (few .1) j in-formula (T .nodes) n nodes-held long-after
+        (length (answered .rows)) (few .0) (omega arith) (settings ∷ [])
+
+    -- two settings that agree on the existential variables left of the universal get the same answer
+    pub play-depends : (settings other : ℕ) (q o : Played) → Play-call (suc j) (last-root-word r t j) n settings q → Play-call (suc j) (last-root-word r t j) n other o
+        → ((x : ℕ) → bound-by exists (the-formula .prefix) x ≡ true → left-of (the-formula .prefix) x (getD (universals (the-formula .prefix)) j 0) ≡ true
+        → has (settings ∷ []) x ≡ has (other ∷ []) x)
+        → q ≡ o
+    play-depends settings other q o e f same =
+        play-last settings q e
+        ∙ ap (λ (v : Value). record { number = 0; value = value-word v }) (countermodel .depends j present (has (settings ∷ [])) (has (other ∷ [])) same)
+        ∙ sym (play-last other o f)
+
+-- demand 3 plays a star as 0: the burst is sent where the answer's value is 2, one
+pub sent : (v : Value) → eqb (value-word v) 2 ≡ as-bool v
+sent Star = refl
+sent One = refl
+sent Zero = refl

@@ -275,6 +275,16 @@ head-some form k proof h =
       ltb-false (announced proof) 1 (neither (ltb (announced proof) 1) (ltb lines-most (announced proof)) (third-passes _ _ _ h) .0),
     )
 
+-- and no more lines than there may be
+pub head-few : (form : Form) (k : ℕ) (proof : List ℕ) → head-fault form k proof ≡ passes → length (records form k proof) ≤ lines-most
+unfolding head-fault records
+head-few form k proof h =
+    omega (
+      arith,
+      length-split (announced proof) (drop (head-bytes + form .between k) proof),
+      ltb-false lines-most (announced proof) (neither (ltb (announced proof) 1) (ltb lines-most (announced proof)) (third-passes _ _ _ h) .1),
+    )
+
 -- rows that all pass: derived, and at least one
 pub all-pass-derived : (rules : Formula → Rules) (form : Form) (text proof : List ℕ) (F : Formula) (rows : List Row) → All-pass rules form text proof F rows
     → Derived (rules F) F rows × (1 ≤ length rows)
@@ -299,6 +309,14 @@ accepted-good text proof F rows h =
     let a = accepted-passes text proof F rows h in
     let p = read-proper text F (a .0 .given) in
     (p, good-derived (house F) F p rows (all-pass-derived house merge-proof text proof F rows (a .0) .0))
+
+-- an accepted proof has from 1 to 1,024 lines
+pub accepted-lines : (text proof : List ℕ) (F : Formula) (rows : List Row) → checked text proof ≡ accepted F rows → (1 ≤ length rows) × (length rows ≤ lines-most)
+accepted-lines text proof F rows h =
+    let P = accepted-passes text proof F rows h .0 in
+    let k : ℕ = length (universals (F .prefix)) in
+    let d = all-derived (house F) F (records merge-proof k proof) rows (P .lines) in
+    (omega (arith, d .1, head-some merge-proof k proof (P .head)), omega (arith, d .1, head-few merge-proof k proof (P .head)))
 
 -- the last maps of an accepted proof are a countermodel of the formula that was read
 pub accepted-wins : (text proof : List ℕ) (F : Formula) (rows : List Row) → checked text proof ≡ accepted F rows

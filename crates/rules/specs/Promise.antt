@@ -33,6 +33,7 @@ pub record Answered (text proof : List ℕ) (T : Lent) : Type 0 where
   pub formula-is : Formula
   pub rows : List Row
   pub accepts : checked text proof ≡ accepted formula-is rows
+  pub long : short-tables T ≡ false
   pub answer : checking text proof T ≡ record { reply = success formula-is (length rows); leaves = filled formula-is rows }
 
 one≢zero : {n : ℕ} → 1 ≤ n → n ≡ 0 → ⊥
@@ -45,9 +46,9 @@ answered-zero text proof T = by (short-tables T) (ltb text-most (length text)) r
     now : (s l : Bool) → Answer
     now s l = elim s [ true ↦ refused-early 2 | false ↦ elim l [ true ↦ refused-early 1 | false ↦ check-answer (checked text proof) ] ]
 
-    ended : (c : Checked) → checked text proof ≡ c → checking text proof T ≡ check-answer c → check-answer c .reply .number ≡ 0 → Answered text proof T
-    ended (rejected n at v) e f z = absurd (one≢zero (omega (arith, check-listed text proof n at v e)) z)
-    ended (accepted F rows) e f z = record { formula-is = F; rows = rows; accepts = e; answer = f }
+    ended : (c : Checked) → checked text proof ≡ c → short-tables T ≡ false → checking text proof T ≡ check-answer c → check-answer c .reply .number ≡ 0 → Answered text proof T
+    ended (rejected n at v) e s f z = absurd (one≢zero (omega (arith, check-listed text proof n at v e)) z)
+    ended (accepted F rows) e s f z = record { formula-is = F; rows = rows; accepts = e; long = s; answer = f }
 
     by : (s l : Bool) → short-tables T ≡ s → ltb text-most (length text) ≡ l → checking text proof T .reply .number ≡ 0 → Answered text proof T
     by true l e f z = absurd (one≢zero (omega arith) (sym (ap (λ (b : Bool). now b (ltb text-most (length text)) .reply .number) e) ∙ z))
@@ -55,7 +56,7 @@ answered-zero text proof T = by (short-tables T) (ltb text-most (length text)) r
     by false false e f z =
         let same : checking text proof T ≡ check-answer (checked text proof) =
         ap (λ (b : Bool). now b (ltb text-most (length text))) e ∙ ap (λ (b : Bool). now false b) f in
-        ended (checked text proof) refl same (sym (ap (λ (a : Answer). a .reply .number) same) ∙ z)
+        ended (checked text proof) refl e same (sym (ap (λ (a : Answer). a .reply .number) same) ∙ z)
 
 -- demand 3's last sentence, from the answer: the text reads to a formula, and that formula is false
 pub answered-false : (text proof : List ℕ) (T : Lent) → checking text proof T .reply .number ≡ 0 → (F : Formula) × (read text ≡ formula F) × False F
