@@ -16,12 +16,13 @@ use lib.Seq.{drop-cons}
 use mir.Facts.{toZ-ofZ}
 use mir.Syntax.{w32}
 use mir.Val.{Fits, SFits, toZ, ofZ}
-use Rattle.rules.specs.Limits.{number-most, bad-token}
+use Rattle.rules.specs.Limits.{number-most}
 use Rattle.rules.specs.Text.{Number, digit, minus, grown, sized, counting, number-of}
 use Rattle.rules.specs.Text.Number.{number, no-number}
 use Rattle.formula.specs.declared.numbers.Literal.{Literal}
+use Rattle.formula.specs.declared.numbers.Token.{Token}
 use Rattle.formula.specs.declared.numbers.Token.the-variants as T
-use Rattle.formula.specs.Numbers.{token-of, literal-of}
+use Rattle.formula.specs.Numbers.{token-of, literal-of, refused-of, answer-of}
 
 -- ---- sign and magnitude
 mag-neg : (n : ℤ) → mag (negℤ n) ≤ suc (mag n)
@@ -133,9 +134,10 @@ pub told-number : (n : Number) (at : ℕ) (z : ℤ) → T.Number z ≡ token-of 
 told-number (number y) at z e = cc
 told-number no-number at z e = let o : _≡_ {A = ℕ} 0 1 = cc in absurd (omega arith)
 
-pub told-refused : (n : Number) (at k p : ℕ) → T.Refused k p ≡ token-of n at → (n ≡ no-number) × (k ≡ bad-token) × (p ≡ at)
-told-refused (number y) at k p e = let o : _≡_ {A = ℕ} 0 1 = cc in absurd (omega arith)
-told-refused no-number at k p e = (refl, (cc), (cc))
+-- a refusal that came back is the answer
+pub told-refused : (n : Number) (at : ℕ) (t : Token) (k p : ℕ) → t ≡ T.Refused k p → t ≡ token-of n at → refused-of t ≡ answer-of n at
+told-refused (number y) at t k p e f = let o : _≡_ {A = ℕ} 0 1 = cc in absurd (omega arith)
+told-refused no-number at t k p e f = ap refused-of f
 
 -- ---- the digits from a place on
 module _ (negated : Bool) (n : ℕ) (w : List ℕ) (i : ℕ) where

@@ -1,6 +1,6 @@
 -- The tokens of a text from a place on, as the reader's loops meet them: separators passed over, one token taken, comments left behind.
 use mathlib.Core.Path.{_≡_, refl, sym, ap, _∙_}
-use mathlib.Core.Bool.{Bool, true, false, not, _&&_}
+use mathlib.Core.Bool.{Bool, true, false, not, _&&_, and-true}
 use mathlib.Core.List.{List, [], _∷_}
 use Prim.Native.Nat.{ℕ, zero, suc, _+_, _-_, _≤_, _<_}
 use native.Mathlib.Omega.{arith}
@@ -177,10 +177,6 @@ unfolding uncommented
 comments-end inside s i h = rw (drop-of-length-le s h)
 
 -- ---- a token that is to be a certain word
-and-true : (t : Bool) → t && true ≡ t
-and-true true = refl
-and-true false = refl
-
 pub letter-spelled : (b : ℕ) (w : List ℕ) → length w ≡ 1 → eqb (getD w 0 0) b ≡ spelled (b ∷ []) w
 unfolding spelled
 letter-spelled b [] e = absurd (omega arith)

@@ -1,2 +1,3 @@
 -- What the code's types say in the words of the definitions.
 pub mod Numbers
+pub mod States

@@ -8,6 +8,8 @@ use Rattle.rules.specs.Text.Number.{number, no-number}
 use Rattle.formula.specs.declared.numbers.Token.{Token}
 use Rattle.formula.specs.declared.numbers.Token.the-variants as T
 use Rattle.formula.specs.declared.numbers.Literal.{Literal}
+use Rattle.formula.specs.declared.numbers.Answer.{Answer}
+use Rattle.formula.specs.declared.numbers.Answer.the-variants as A
 
 -- the number, or 3 with the token's offset
 abbrev pub token-of : Number → ℕ → Token
@@ -18,3 +20,13 @@ token-of no-number at = T.Refused bad-token at
 abbrev pub literal-of : ℤ → Literal
 literal-of (pos n) = record { variable = n; negated = false }
 literal-of (negsuc n) = record { variable = suc n; negated = true }
+
+-- the refusal that came back for a token
+abbrev pub refused-of : Token → Answer
+refused-of (T.Number z) = A.Refused bad-token 0
+refused-of (T.Refused k at) = A.Refused k at
+
+-- the literal, or 3 with the token's offset
+abbrev pub answer-of : Number → ℕ → Answer
+answer-of (number z) at = A.Literal (literal-of z)
+answer-of no-number at = A.Refused bad-token at

@@ -9,7 +9,7 @@ ghost use lib.Signed.{mag};
 ghost use lib.ListN.{length, drop};
 ghost use Rattle.rules.specs.Limits.{number-most};
 ghost use Rattle.rules.specs.Text as text;
-ghost use Rattle.formula.specs.Numbers.{token-of, literal-of};
+ghost use Rattle.formula.specs.Numbers.{token-of, literal-of, refused-of, answer-of};
 
 const MINUS: u8 = 45;
 
@@ -29,6 +29,12 @@ pub enum Token {
 pub struct Literal {
     pub variable: u32,
     pub negated: bool,
+}
+
+// What a token is where a literal is to stand: variable and polarity, or a refusal with the token's offset.
+pub enum Answer {
+    Literal(Literal),
+    Refused(u32, usize),
 }
 
 // One digit more; past the limit the number stays there.
@@ -135,4 +141,25 @@ pub fn split(n: i32) -> Literal
             negated: false,
         }
     }
+}
+
+// The refusal that came back for a token.
+fn refused(t: Token) -> Answer
+    ensures { λ r. ⌜ r ≡ refused-of t ⌝ }
+{
+    match t {
+        Token::Number(_) => Answer::Refused(BAD_TOKEN, 0),
+        Token::Refused(k, at) => Answer::Refused(k, at),
+    }
+}
+
+// Variable and polarity of the number that a token spells, or the refusal 3 with the token's offset.
+pub fn spelled_literal(word: &[u8], at: usize) -> Answer
+    ensures { λ r. ⌜ r ≡ answer-of (text.number-of (now (word .entry))) at ⌝ }
+{
+    let t = number(word, at);
+    let Token::Number(n) = t else {
+        return refused(t);
+    };
+    Answer::Literal(split(n))
 }
