@@ -206,34 +206,34 @@ pass-down T (suc i) Q h = let e : i ≡ suc i - 1 = omega arith in ap (λ (k : �
 clash-fails : (T : Column) (i : ℕ) → whole (pass T T i clash) ≡ false
 clash-fails T i = ap whole (pass-clash T T i)
 
--- with node i yet to visit: the test from the start is the pass from here
-pub record Going (T : Column) (r t i : ℕ) (l m : List ℕ) : Type 0 where
+-- with node i yet to visit: the pass from the top is the pass from here
+pub record Going (T : Column) (top : ℕ) (l₀ m₀ : List ℕ) (i : ℕ) (l m : List ℕ) : Type 0 where
   pub partners : Partners l m
   pub most : i ≤ lines-most
-  pub test : isomorphic T r T t ≡ whole (pass T T i (held true l m))
+  pub test : whole (pass T T top (held true l₀ m₀)) ≡ whole (pass T T i (held true l m))
 
-module _ (T : Column) (r t : ℕ) where
-  module _ (n : ℕ) (l m : List ℕ) where
-    pub going-first : r ≤ lines-most → Stands (pair (held true (replicate n 0) (replicate n 0)) r t) true l m → Going T r t r l m
-    going-first h S = record { partners = S .kept; most = h; test = test-from T r t n ∙ ap (λ (Q : Pairing). whole (pass T T r Q)) (sym (S .pairing)) }
+module _ (T : Column) (top : ℕ) (l₀ m₀ : List ℕ) (i : ℕ) (l m : List ℕ) (G : Going T top l₀ m₀ i l m) where
+  visited : 0 < i → whole (pass T T top (held true l₀ m₀)) ≡ whole (pass T T (i - 1) (visit T T i (held true l m)))
+  visited h = G .test ∙ ap whole (pass-down T i (held true l m) h)
 
-    pub first-fails : Stands (pair (held true (replicate n 0) (replicate n 0)) r t) false l m → false ≡ isomorphic T r T t
-    first-fails S = sym (test-from T r t n ∙ ap (λ (Q : Pairing). whole (pass T T r Q)) (sym (S .pairing)) ∙ clash-fails T r)
+  pub going-on : 0 < i → (l₁ m₁ : List ℕ) → Stands (visit T T i (held true l m)) true l₁ m₁ → Going T top l₀ m₀ (i - 1) l₁ m₁
+  going-on h l₁ m₁ S = record {
+    partners = S .kept;
+    most = omega (arith, G .most);
+    test = visited h ∙ ap (λ (Q : Pairing). whole (pass T T (i - 1) Q)) (sym (S .pairing));
+  }
 
-  module _ (i : ℕ) (l m : List ℕ) (G : Going T r t i l m) where
-    visited : 0 < i → isomorphic T r T t ≡ whole (pass T T (i - 1) (visit T T i (held true l m)))
-    visited h = G .test ∙ ap whole (pass-down T i (held true l m) h)
+  pub visit-fails : 0 < i → (l₁ m₁ : List ℕ) → Stands (visit T T i (held true l m)) false l₁ m₁ → false ≡ whole (pass T T top (held true l₀ m₀))
+  visit-fails h l₁ m₁ S = sym (visited h ∙ ap (λ (Q : Pairing). whole (pass T T (i - 1) Q)) (sym (S .pairing)) ∙ clash-fails T (i - 1))
 
-    pub going-on : 0 < i → (l₁ m₁ : List ℕ) → Stands (visit T T i (held true l m)) true l₁ m₁ → Going T r t (i - 1) l₁ m₁
-    going-on h l₁ m₁ S = record {
-      partners = S .kept;
-      most = omega (arith, G .most);
-      test = visited h ∙ ap (λ (Q : Pairing). whole (pass T T (i - 1) Q)) (sym (S .pairing));
-    }
+  pub all-visited : i ≤ 0 → true ≡ whole (pass T T top (held true l₀ m₀))
+  unfolding pass
+  all-visited h = let z : i ≡ 0 = omega arith in sym (G .test ∙ ap (λ (k : ℕ). whole (pass T T k (held true l m))) z)
 
-    pub visit-fails : 0 < i → (l₁ m₁ : List ℕ) → Stands (visit T T i (held true l m)) false l₁ m₁ → false ≡ isomorphic T r T t
-    visit-fails h l₁ m₁ S = sym (visited h ∙ ap (λ (Q : Pairing). whole (pass T T (i - 1) Q)) (sym (S .pairing)) ∙ clash-fails T (i - 1))
+-- the test, from the answer to the first pair on
+module _ (T : Column) (r t n : ℕ) (l m : List ℕ) where
+  pub first-fails : Stands (pair (held true (replicate n 0) (replicate n 0)) r t) false l m → false ≡ isomorphic T r T t
+  first-fails S = sym (test-from T r t n ∙ ap (λ (Q : Pairing). whole (pass T T r Q)) (sym (S .pairing)) ∙ clash-fails T r)
 
-    pub all-visited : i ≤ 0 → true ≡ isomorphic T r T t
-    unfolding pass
-    all-visited h = let z : i ≡ 0 = omega arith in sym (G .test ∙ ap (λ (k : ℕ). whole (pass T T k (held true l m))) z)
+  pub first-holds : Stands (pair (held true (replicate n 0) (replicate n 0)) r t) true l m → whole (pass T T r (held true l m)) ≡ isomorphic T r T t
+  first-holds S = sym (test-from T r t n ∙ ap (λ (Q : Pairing). whole (pass T T r Q)) (sym (S .pairing)))

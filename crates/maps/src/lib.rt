@@ -10,7 +10,7 @@ ghost use Prim.Native.Nat.{_+_, _≤_};
 ghost use Rattle.rules.specs.Limits.{lines-most};
 ghost use Rattle.rules.specs.Sets.{has};
 ghost use Rattle.sets.specs.Values.{set-of};
-ghost use Rattle.rules.specs.Maps.{node-of, node-word, value-word, star?, walk, pair, compare, visit, isomorphic};
+ghost use Rattle.rules.specs.Maps.{node-of, node-word, value-word, star?, walk, pair, compare, visit, pass, whole, isomorphic};
 ghost use Rattle.rules.specs.MapLaws.{In-range};
 ghost use Rattle.rules.specs.Services.{table-column, playing};
 ghost use Rattle.maps.specs.Playing.{next, falls, outcome, Place};
@@ -276,6 +276,27 @@ fn visit_node(
     compare_nodes(to, from, m, n)
 }
 
+// The nodes from `top` down to 1, each visited: true where no pair clashed.
+fn pass_down(
+    to: &mut [u16; 1024],
+    from: &mut [u16; 1024],
+    nodes: &[u32],
+    column: usize,
+    top: u32,
+) -> bool
+    requires { ⌜ Partners (now to) (now from) × Place (now nodes) column top ⌝ }
+    ensures { λ r. ⌜ r ≡ whole (pass (table-column (now (nodes .entry)) (column + 1)) (table-column (now (nodes .entry)) (column + 1)) top (held true (now (to .entry)) (now (from .entry)))) ⌝ }
+{
+    let mut i = top;
+    while 0 < i {
+        if !visit_node(to, from, nodes, column, i) {
+            return false;
+        }
+        i -= 1;
+    }
+    true
+}
+
 // The maps at r and t of a column are isomorphic: one pass by falling number over a pairing.
 pub fn isomorphic(nodes: &[u32], column: usize, r: u32, t: u32) -> bool
     requires { ⌜ Place (now nodes) column r × Place (now nodes) column t ⌝ }
@@ -286,12 +307,5 @@ pub fn isomorphic(nodes: &[u32], column: usize, r: u32, t: u32) -> bool
     if !pair_up(&mut to, &mut from, r, t) {
         return false;
     }
-    let mut i = r;
-    while 0 < i {
-        if !visit_node(&mut to, &mut from, nodes, column, i) {
-            return false;
-        }
-        i -= 1;
-    }
-    true
+    pass_down(&mut to, &mut from, nodes, column, r)
 }
