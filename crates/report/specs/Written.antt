@@ -4,6 +4,7 @@ use mathlib.Core.List.{List, _++_}
 use Prim.Native.Nat.{ℕ, _+_}
 use lib.ListN.{length, take, drop}
 use Rattle.rules.specs.declared.Node.{Node}
+use Rattle.rules.specs.Bytes.{text}
 use Rattle.rules.specs.Report.{decimal, node-text, line}
 
 -- the text stands behind the first `at` bytes, `next` is past it, and what lies past it is as it was
@@ -16,3 +17,11 @@ pub record Appended (before after : List ℕ) (at next : ℕ) (text : List ℕ) 
 -- the line of node k, which is n
 abbrev pub numbered : ℕ → Node → List ℕ
 numbered k n = line (decimal k ++ node-text n)
+
+-- the first line of what is accepted
+abbrev pub accepted-line : ℕ → List ℕ
+accepted-line n = line (text "accepted " ++ decimal n)
+
+-- a map's variable and root
+abbrev pub map-head : ℕ → ℕ → List ℕ
+map-head u r = line (text "map " ++ (decimal u ++ (text " root " ++ decimal r)))

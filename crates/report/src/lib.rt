@@ -1,3 +1,5 @@
 // What the bench program prints, assembled in a lent buffer.
+mod lines;
+mod map;
 mod nodes;
 mod text;

@@ -1,0 +1,55 @@
+-- `report::lines::put_accepted` meets its contract.
+use native.Mathlib.Omega.{arith}
+use borrow.Author.Needs.{needs}
+use Rattle.rules.specs.Bytes.{text}
+use Rattle.report.proofs.Laws.{then}
+use Rattle.report.proofs.lines.put_accepted.Statement.{statement}
+use Rattle.report.proofs.lines.put_accepted.Tie as tie
+use Rattle.report.proofs.lines.put_accepted.Reads as reads
+use Rattle.report.proofs.lines.put_accepted.Lts as lts
+use Rattle.report.proofs.text.put.Reads as put-reads
+use Rattle.report.proofs.text.put_decimal.Reads as put-decimal-reads
+
+-- src/lines.rt:30:35
+slice-aggregate-put : tie.Need-slice-aggregate-put
+slice-aggregate-put c = search needs
+
+-- src/lines.rt:30:9
+put-requires : tie.Need-put-requires
+put-requires c κs = search needs
+
+-- src/lines.rt:31:9
+put-decimal-requires : tie.Need-put-decimal-requires
+put-decimal-requires c κs = search needs
+
+-- src/lines.rt:32:26
+slice-aggregate-put-2 : tie.Need-slice-aggregate-put-2
+slice-aggregate-put-2 c = search needs
+
+-- src/lines.rt:32:5
+put-requires-2 : tie.Need-put-requires-2
+put-requires-2 c κs = search needs
+
+-- src/lines.rt:26:1
+same-length : tie.Need-same-length
+same-length c = search needs
+
+-- src/lines.rt:26:1
+returns : tie.Need-returns
+unfolding text
+returns c = (
+  then (then (c .before .before .before .before .before .before .before .before .before .before .before .put .ensures) (c .before .before .before .before .before .before .before .put-decimal .ensures .0)) (c .before .before .put2 .ensures),
+  omega (arith, c .before .before .before .before .before .before .before .before .before .before .before .put .ensures .next-is, c .before .before .before .before .before .before .before .put-decimal .ensures .1, c .before .before .put2 .ensures .next-is),
+)
+
+pub put-accepted-spec : {M : Type 1} → statement M
+put-accepted-spec =
+    tie.close
+    (tie.spec
+    slice-aggregate-put
+    put-requires
+    put-decimal-requires
+    slice-aggregate-put-2
+    put-requires-2
+    same-length
+    returns)
