@@ -12,7 +12,7 @@ use Rattle.rules.specs.declared.Node.the-variants.{None, Leaf, Branch}
 use Rattle.rules.specs.Limits.{universals-most, play-range, play-word}
 use Rattle.rules.specs.Sets.{Set, has}
 use Rattle.rules.specs.Formula.{Assignment}
-use Rattle.rules.specs.Maps.{Column, node-of, value-word, Walk, reading, walk-node, walk}
+use Rattle.rules.specs.Maps.{Column, node-of, value-word, Walk, noting, walk-node, walk}
 use Rattle.rules.specs.Maps.Walk.{ended, broken}
 use Rattle.rules.specs.MapLaws.{walk-at}
 use Rattle.rules.specs.declared.Played.{Played}
@@ -39,9 +39,9 @@ next-high s i x a b l h = rw (lt-ltb a i l, le-ltb b i h, next)
 pub next-go : (s : Assignment) (i x a b : ℕ) → a < i → b < i → next s i (Branch x a b) ≡ Go (cond (s x) b a)
 next-go s i x a b l h = rw (lt-ltb a i l, lt-ltb b i h, next)
 
-outcome-reading : (x : ℕ) (w : Walk) → outcome (reading x w) ≡ outcome w
-outcome-reading x (ended v k s) = refl
-outcome-reading x broken = refl
+outcome-noting : (x : ℕ) (w : Walk) → outcome (noting x w) ≡ outcome w
+outcome-noting x (ended v k s) = refl
+outcome-noting x broken = refl
 
 -- the outcome that a step leads to
 abbrev pub led : (ℕ → Outcome) → Next → Outcome
@@ -60,8 +60,8 @@ walk-led T s i n e = ap outcome (walk-at T s i) ∙ node (T i) ∙ ap (led (λ k
       where
         by : (p : Bool) → (ltb a i && ltb b i) ≡ p → (o : Bool) → s x ≡ o
             → outcome (walk-node s (walk T s) i (Branch x a b)) ≡ led (λ k. outcome (walk T s k)) (next s i (Branch x a b))
-        by true p true o = rw (p, o, walk-node, next) (outcome-reading x (walk T s b))
-        by true p false o = rw (p, o, walk-node, next) (outcome-reading x (walk T s a))
+        by true p true o = rw (p, o, walk-node, next) (outcome-noting x (walk T s b))
+        by true p false o = rw (p, o, walk-node, next) (outcome-noting x (walk T s a))
         by false p o q = rw (p, walk-node, next)
 
 -- ---- the service

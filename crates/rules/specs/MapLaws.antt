@@ -15,7 +15,7 @@ use Rattle.rules.specs.Limits.{variables-most, branch-mark, variable-ste
 use Rattle.rules.specs.Sets.{Set, none, has, with}
 use Rattle.rules.specs.SetLaws.{length-none, length-with, has-with}
 use Rattle.rules.specs.Formula.{Assignment}
-use Rattle.rules.specs.Maps.{node-word, node-of, branch-at, Column, Walk, reading, walk-node, walk-over, walk, value-of, plays, Reached, star?}
+use Rattle.rules.specs.Maps.{node-word, node-of, branch-at, Column, Walk, noting, walk-node, walk-over, walk, value-of, plays, Reached, star?}
 use Rattle.rules.specs.Maps.Walk.{ended, broken}
 use Rattle.rules.specs.Maps.Reached.{root, low, high}
 
@@ -99,8 +99,8 @@ walk-node-below s f g i (Leaf v) same = refl
 walk-node-below s f g i (Branch x a b) same = by (ltb a i) refl (ltb b i) refl (s x) refl
   where
     by : (p : Bool) → ltb a i ≡ p → (q : Bool) → ltb b i ≡ q → (o : Bool) → s x ≡ o → walk-node s f i (Branch x a b) ≡ walk-node s g i (Branch x a b)
-    by true p true q true o = rw (p, q, o, walk-node) (ap (reading x) (same b (ltb-true b i q)))
-    by true p true q false o = rw (p, q, o, walk-node) (ap (reading x) (same a (ltb-true a i p)))
+    by true p true q true o = rw (p, q, o, walk-node) (ap (noting x) (same b (ltb-true b i q)))
+    by true p true q false o = rw (p, q, o, walk-node) (ap (noting x) (same a (ltb-true a i p)))
     by true p false q o e = rw (p, q, walk-node)
     by false p q e o e′ = rw (p, walk-node)
 
@@ -125,23 +125,23 @@ pub walk-leaf : (T : Column) (s : Assignment) (i : ℕ) (v : Value) → T i ≡ 
 walk-leaf T s i v e = walk-at T s i ∙ ap (walk-node s (walk T s) i) e
 
 -- from a branch with both ends below it the walk goes on at b where x is 1, else at a
-pub walk-branch : (T : Column) (s : Assignment) (i x a b : ℕ) → T i ≡ Branch x a b → a < i → b < i → walk T s i ≡ reading x (walk T s (cond (s x) b a))
+pub walk-branch : (T : Column) (s : Assignment) (i x a b : ℕ) → T i ≡ Branch x a b → a < i → b < i → walk T s i ≡ noting x (walk T s (cond (s x) b a))
 walk-branch T s i x a b e p q = walk-at T s i ∙ ap (walk-node s (walk T s) i) e ∙ by (s x) refl
   where
-    by : (o : Bool) → s x ≡ o → walk-node s (walk T s) i (Branch x a b) ≡ reading x (walk T s (cond (s x) b a))
+    by : (o : Bool) → s x ≡ o → walk-node s (walk T s) i (Branch x a b) ≡ noting x (walk T s (cond (s x) b a))
     by true o = rw (lt-ltb a i p, lt-ltb b i q, o, walk-node)
     by false o = rw (lt-ltb a i p, lt-ltb b i q, o, walk-node)
 
-value-reading : (x : ℕ) (w : Walk) → value-of (reading x w) ≡ value-of w
-value-reading x (ended v k s) = refl
-value-reading x broken = refl
+value-noting : (x : ℕ) (w : Walk) → value-of (noting x w) ≡ value-of w
+value-noting x (ended v k s) = refl
+value-noting x broken = refl
 
 pub plays-leaf : (T : Column) (s : Assignment) (i : ℕ) (v : Value) → T i ≡ Leaf v → plays T s i ≡ v
 plays-leaf T s i v e = ap value-of (walk-leaf T s i v e)
 
 -- what a branch plays (004, Proposition 18)
 pub plays-branch : (T : Column) (s : Assignment) (i x a b : ℕ) → T i ≡ Branch x a b → a < i → b < i → plays T s i ≡ plays T s (cond (s x) b a)
-plays-branch T s i x a b e p q = ap value-of (walk-branch T s i x a b e p q) ∙ value-reading x (walk T s (cond (s x) b a))
+plays-branch T s i x a b e p q = ap value-of (walk-branch T s i x a b e p q) ∙ value-noting x (walk T s (cond (s x) b a))
 
 -- ---- walks that are alike
 -- columns that agree on what is reached from r, and assignments that agree on what its branches read, walk alike
@@ -156,8 +156,8 @@ walk-alike T U s t r same agree = from (suc r) r (omega arith) root
     node i (Branch x a b) e h below = by (ltb a i) refl (ltb b i) refl (t x) refl
       where
         by : (p : Bool) → ltb a i ≡ p → (q : Bool) → ltb b i ≡ q → (o : Bool) → t x ≡ o → walk-node s (walk T s) i (Branch x a b) ≡ walk-node t (walk U t) i (Branch x a b)
-        by true p true q true o = rw (p, q, agree i x a b h e, o, walk-node) (ap (reading x) (below b (ltb-true b i q) (high h e)))
-        by true p true q false o = rw (p, q, agree i x a b h e, o, walk-node) (ap (reading x) (below a (ltb-true a i p) (low h e)))
+        by true p true q true o = rw (p, q, agree i x a b h e, o, walk-node) (ap (noting x) (below b (ltb-true b i q) (high h e)))
+        by true p true q false o = rw (p, q, agree i x a b h e, o, walk-node) (ap (noting x) (below a (ltb-true a i p) (low h e)))
         by true p false q o g = rw (p, q, walk-node)
         by false p q g o g′ = rw (p, walk-node)
 
@@ -189,8 +189,8 @@ walk-ends T s r S = from (suc r) r (omega arith) root
     node i (Leaf v) e h below = (v, i, none set-words, walk-leaf T s i v e, h, e)
     node i (Branch x a b) e h below = by (s x) refl
       where
-        on : (k : ℕ) → walk T s i ≡ reading x (walk T s k) → Ends k → Ends i
-        on k g w = (w .0, w .1, with (w .2) x, g ∙ ap (reading x) (w .3), w .4, w .5)
+        on : (k : ℕ) → walk T s i ≡ noting x (walk T s k) → Ends k → Ends i
+        on k g w = (w .0, w .1, with (w .2) x, g ∙ ap (noting x) (w .3), w .4, w .5)
 
         f : (a < i) × (b < i)
         f = S .falling i x a b h e
@@ -249,11 +249,11 @@ walk-read T s t r v k S range e agree = from (suc r) r (omega arith) root v k S 
 
         on : (w : Walk) → walk T s (cond (s x) b a) ≡ w → Read (cond (s x) b a)
             → (length S ≡ set-words) × (((x : ℕ) → has S x ≡ true → s x ≡ t x) → walk T t i ≡ ended v k S)
-        on broken o R = absurd (broken≢ended (sym (walk-branch T s i x a b g (f .0) (f .1) ∙ ap (reading x) o) ∙ e))
+        on broken o R = absurd (broken≢ended (sym (walk-branch T s i x a b g (f .0) (f .1) ∙ ap (noting x) o) ∙ e))
         on (ended w l A) o R = (ap length (sym (z .2)) ∙ length-with A x ∙ R w l A o .0, same)
           where
             end : ended w l (with A x) ≡ ended v k S
-            end = sym (walk-branch T s i x a b g (f .0) (f .1) ∙ ap (reading x) o) ∙ e
+            end = sym (walk-branch T s i x a b g (f .0) (f .1) ∙ ap (noting x) o) ∙ e
 
             z : (w ≡ v) × (l ≡ k) × (with A x ≡ S)
             z = ended-inj end
@@ -267,8 +267,8 @@ walk-read T s t r v k S range e agree = from (suc r) r (omega arith) root v k S 
             same : ((y : ℕ) → has S y ≡ true → s y ≡ t y) → walk T t i ≡ ended v k S
             same agree =
                 walk-branch T t i x a b g (f .0) (f .1)
-                ∙ ap (λ (c : Bool). reading x (walk T t (cond c b a))) (sym here)
-                ∙ ap (reading x) (R w l A o .1 (λ y m. agree y (member y ∙ rw (m, or-true))))
+                ∙ ap (λ (c : Bool). noting x (walk T t (cond c b a))) (sym here)
+                ∙ ap (noting x) (R w l A o .1 (λ y m. agree y (member y ∙ rw (m, or-true))))
                 ∙ end
               where
                 here : s x ≡ t x

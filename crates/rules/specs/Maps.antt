@@ -52,16 +52,16 @@ pub data Walk : Type 0 where
   -- a reached node is none, or an end of a reached branch is not below its own number
   broken : Walk
 
-abbrev pub reading : ℕ → Walk → Walk
-reading x (ended v k s) = ended v k (with s x)
-reading x broken = broken
+abbrev pub noting : ℕ → Walk → Walk
+noting x (ended v k s) = ended v k (with s x)
+noting x broken = broken
 
 -- from a branch the walk goes to a node of smaller number: at x = 0 to a, else to b
 abbrev pub walk-node : Assignment → (ℕ → Walk) → ℕ → Node → Walk
 walk-node s follow i None = broken
 walk-node s follow i (Leaf v) = ended v i (none set-words)
 walk-node s follow i (Branch x a b) =
-    elim (ltb a i && ltb b i) [ true ↦ elim (s x) [ true ↦ reading x (follow b) | false ↦ reading x (follow a) ] | false ↦ broken ]
+    elim (ltb a i && ltb b i) [ true ↦ elim (s x) [ true ↦ noting x (follow b) | false ↦ noting x (follow a) ] | false ↦ broken ]
 
 -- the walk from node i, over at most so many nodes
 unfoldable pub walk-over : ℕ → Column → Assignment → ℕ → Walk
