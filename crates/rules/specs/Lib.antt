@@ -37,4 +37,5 @@ pub mod Exact
 pub mod FirstFault
 pub mod TableLaws
 pub mod TablePlays
+pub mod ReportLaws
 pub mod Promise
