@@ -1,3 +1,4 @@
 pub mod Tables
 pub mod Columns
 pub mod Games
+pub mod Selects

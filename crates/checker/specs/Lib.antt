@@ -1,1 +1,2 @@
 pub mod Game
+pub mod Selects
