@@ -4,8 +4,9 @@ use mathlib.Core.List.{List, [], _∷_, _++_, append-assoc, append-nil}
 use Prim.Native.Nat.{ℕ, zero, suc, _+_, _-_, _*_, _≤_, _<_}
 use native.Mathlib.Omega.{arith}
 use native.Mathlib.Nat.{mul-suc, mul-zero, mul-le-mul-left}
+use native.Mathlib.Numerals.{add-one}
 use lib.ListN.{length, getD, take, drop, set, replicate, length-append, length-replicate, length-drop, List·getD-append, getD-replicate, replicate-append-replicate}
-use lib.Seq.{take-at, drop-at, drop-drop, take-append-le, drop-append-le, drop-append-add, getD-append-add, take-suc, set-at, take-all, length-take-le, append-snoc, ext-getD, getD-take, getD-drop}
+use lib.Seq.{take-at, drop-at, drop-drop, take-append-le, drop-append-le, drop-append-add, getD-append-add, take-suc, set-at, take-all, length-take-le, append-snoc, ext-getD, getD-take, getD-drop, take-suc-set}
 use borrow.Rule.Slice.PartMut.{putMid}
 use Rattle.rules.specs.Tables.{padded, rows-of, holding}
 
@@ -165,3 +166,10 @@ padded-more n ws j h l =
 
 pub padded-all : (n : ℕ) (ws : List ℕ) (j : ℕ) → length ws ≤ j → padded n (take j ws) ≡ padded n ws
 padded-all n ws j h = ap (padded n) (take-all j ws h)
+
+-- ---- a row copied word by word
+pub copy-more : (d s : List ℕ) (i : ℕ) → i < length d → i < length s → take i d ≡ take i s → take (i + 1) (set d i (getD s i 0)) ≡ take (i + 1) s
+copy-more d s i hd hs e = rw (add-one, take-suc-set, take-suc s i 0) (ap (λ (l : List ℕ). l ++ (getD s i 0 ∷ [])) e)
+
+pub copy-all : (d s : List ℕ) (i : ℕ) → length d ≤ i → length s ≤ i → take i d ≡ take i s → d ≡ s
+copy-all d s i hd hs e = sym (take-all i d hd) ∙ e ∙ take-all i s hs

@@ -1,2 +1,5 @@
 pub mod Game
+pub mod Rows
+pub mod Makes
+pub mod Resolutions
 pub mod Selects

@@ -1,3 +1,6 @@
 // From a proof file's bytes to the checked rows in the lent tables.
+pub mod axioms;
 pub mod game;
+pub mod resolutions;
+pub mod rows;
 pub mod select;

@@ -1,0 +1,38 @@
+-- What a line makes, by value, and the formula as checking has it: its game and its clause table.
+use mathlib.Core.Path.{_≡_}
+use mathlib.Core.List.{List, [], _∷_}
+use Prim.Native.Nat.{ℕ, _≤_, _<_}
+use lib.ListN.{length}
+use Rattle.rules.specs.Limits.{clause-words, line-words, map-words, lines-most}
+use Rattle.rules.specs.Formula.{Formula}
+use Rattle.rules.specs.Proper.{Proper}
+use Rattle.rules.specs.Good.{Good}
+use Rattle.rules.specs.Lines.{Row, house}
+use Rattle.rules.specs.Lines.{Made as Outcome}
+use Rattle.rules.specs.Lines.Made.{made, refused}
+use Rattle.rules.specs.Tables.{holding, clause-table, line-table, node-table, root-table}
+use Rattle.sets.specs.Values.{clause-of}
+use Rattle.checker.specs.declared.game.Game.{Game}
+use Rattle.checker.specs.declared.axioms.Made.{Made}
+use Rattle.checker.specs.Game.{Game-of}
+use Rattle.checker.specs.Rows.{Row-of}
+
+-- the line's clause and its row, or the refusal's number and variable
+abbrev pub Makes : Outcome → Made → Type 0
+Makes (made row) m = (m .refusal ≡ 0) × (clause-of (m .clause) ≡ row .clause) × Row-of (row .entries) (m .row)
+Makes (refused n v) m = (m .refusal ≡ n) × (m .variable ≡ v) × (1 ≤ n)
+
+-- the formula, its game, and the clause table that holds its clauses
+pub record Whole (F : Formula) (g : Game) (clauses : List ℕ) : Type 0 where
+  pub proper : Proper F
+  pub game : Game-of F g
+  pub long : clause-words ≤ length clauses
+  pub words : clauses ≡ holding clause-words (clause-table F []) clauses
+
+-- the rows so far, and the tables that hold them, each otherwise zero and past its words as the second list has it
+pub record Standing (F : Formula) (rows : List Row) (lines lines₀ nodes nodes₀ roots roots₀ : List ℕ) : Type 0 where
+  pub good : Good (house F) F rows
+  pub few : length rows ≤ lines-most
+  pub in-lines : lines ≡ holding line-words (line-table F rows) lines₀
+  pub in-nodes : nodes ≡ holding map-words (node-table F rows) nodes₀
+  pub in-roots : roots ≡ holding map-words (root-table F rows) roots₀
