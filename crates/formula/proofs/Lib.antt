@@ -4,3 +4,4 @@ pub mod NumberLaws
 pub mod StateLaws
 pub mod StepLaws
 pub mod HoldingLaws
+pub mod ReadingLaws
