@@ -2,4 +2,6 @@
 mod lines;
 mod map;
 mod nodes;
+mod reply;
+mod table;
 mod text;

@@ -5,36 +5,25 @@ use Rattle.rules.specs.Bytes.{text}
 use Rattle.report.proofs.Laws.{then}
 use Rattle.report.proofs.lines.put_accepted.Statement.{statement}
 use Rattle.report.proofs.lines.put_accepted.Tie as tie
-use Rattle.report.proofs.lines.put_accepted.Reads as reads
-use Rattle.report.proofs.lines.put_accepted.Lts as lts
-use Rattle.report.proofs.text.put.Reads as put-reads
-use Rattle.report.proofs.text.put_decimal.Reads as put-decimal-reads
 
--- src/lines.rt:30:35
 slice-aggregate-put : tie.Need-slice-aggregate-put
 slice-aggregate-put c = search needs
 
--- src/lines.rt:30:9
 put-requires : tie.Need-put-requires
 put-requires c κs = search needs
 
--- src/lines.rt:31:9
 put-decimal-requires : tie.Need-put-decimal-requires
 put-decimal-requires c κs = search needs
 
--- src/lines.rt:32:26
 slice-aggregate-put-2 : tie.Need-slice-aggregate-put-2
 slice-aggregate-put-2 c = search needs
 
--- src/lines.rt:32:5
 put-requires-2 : tie.Need-put-requires-2
 put-requires-2 c κs = search needs
 
--- src/lines.rt:26:1
 same-length : tie.Need-same-length
 same-length c = search needs
 
--- src/lines.rt:26:1
 returns : tie.Need-returns
 unfolding text
 returns c = (

@@ -7,8 +7,6 @@ use Rattle.rules.specs.MapLaws.{In-range}
 use Rattle.report.specs.Marks.{with-ends}
 use Rattle.report.proofs.map.mark_ends.Statement.{statement}
 use Rattle.report.proofs.map.mark_ends.Tie as tie
-use Rattle.report.proofs.map.mark_ends.Reads as reads
-use Rattle.report.proofs.map.mark_ends.Lts as lts
 
 enum-told : tie.Need-enum-told
 enum-told c = search needs
@@ -16,47 +14,36 @@ enum-told c = search needs
 enum-told-2 : tie.Need-enum-told-2
 enum-told-2 c = search needs
 
--- src/map.rt:24:30
 enum-known-node : tie.Need-enum-known-node
 enum-known-node c = search needs
 
--- src/map.rt:25:20
 sub-marks : tie.Need-sub-marks
 sub-marks c = omega (arith, subst In-range (c .before .node .given .1) (c .before .before .before .pre .0))
 
--- src/map.rt:25:19
 cast-marks : tie.Need-cast-marks
 cast-marks c = search needs
 
--- src/map.rt:25:13
 slice-write-marks : tie.Need-slice-write-marks
 slice-write-marks c = omega (arith, subst In-range (c .before .node .given .1) (c .before .before .before .pre .0))
 
--- src/map.rt:26:20
 sub-marks-2 : tie.Need-sub-marks-2
 sub-marks-2 c = omega (arith, subst In-range (c .before .node .given .1) (c .before .before .before .pre .0))
 
--- src/map.rt:26:19
 cast-marks-2 : tie.Need-cast-marks-2
 cast-marks-2 c = search needs
 
--- src/map.rt:26:13
 slice-write-marks-2 : tie.Need-slice-write-marks-2
 slice-write-marks-2 c = simp length-set (omega (arith, subst In-range (c .before .node .given .1) (c .before .before .before .pre .0)))
 
--- src/map.rt:17:1
 returns : tie.Need-returns
 returns c = search needs
 
--- src/map.rt:17:1
 returns-2 : tie.Need-returns-2
 returns-2 c = search needs
 
--- src/map.rt:17:1
 same-length : tie.Need-same-length
 same-length c = search needs
 
--- src/map.rt:17:1
 returns-3 : tie.Need-returns-3
 returns-3 c = sym (ap (λ n. with-ends n (c .before .before .before .args .marks .now)) (c .before .node .given .1))
 

@@ -5,52 +5,37 @@ use Rattle.rules.specs.Bytes.{text}
 use Rattle.report.proofs.Laws.{then}
 use Rattle.report.proofs.nodes.put_branch.Statement.{statement}
 use Rattle.report.proofs.nodes.put_branch.Tie as tie
-use Rattle.report.proofs.nodes.put_branch.Reads as reads
-use Rattle.report.proofs.nodes.put_branch.Lts as lts
-use Rattle.report.proofs.text.put.Reads as put-reads
-use Rattle.report.proofs.text.put_decimal.Reads as put-decimal-reads
 
--- src/nodes.rt:29:35
 slice-aggregate-put : tie.Need-slice-aggregate-put
 slice-aggregate-put c = search needs
 
--- src/nodes.rt:29:9
 put-requires : tie.Need-put-requires
 put-requires c κs = search needs
 
--- src/nodes.rt:30:9
 put-decimal-requires : tie.Need-put-decimal-requires
 put-decimal-requires c κs = search needs
 
--- src/nodes.rt:31:34
 slice-aggregate-put-2 : tie.Need-slice-aggregate-put-2
 slice-aggregate-put-2 c = search needs
 
--- src/nodes.rt:31:9
 put-requires-2 : tie.Need-put-requires-2
 put-requires-2 c κs = search needs
 
--- src/nodes.rt:32:9
 put-decimal-requires-2 : tie.Need-put-decimal-requires-2
 put-decimal-requires-2 c κs = search needs
 
--- src/nodes.rt:33:34
 slice-aggregate-put-3 : tie.Need-slice-aggregate-put-3
 slice-aggregate-put-3 c = search needs
 
--- src/nodes.rt:33:9
 put-requires-3 : tie.Need-put-requires-3
 put-requires-3 c κs = search needs
 
--- src/nodes.rt:34:5
 put-decimal-requires-3 : tie.Need-put-decimal-requires-3
 put-decimal-requires-3 c κs = search needs
 
--- src/nodes.rt:25:1
 same-length : tie.Need-same-length
 same-length c = search needs
 
--- src/nodes.rt:25:1
 returns : tie.Need-returns
 unfolding text
 returns c = (

@@ -6,33 +6,22 @@ use borrow.Author.Needs.{needs}
 use Rattle.report.proofs.Laws.{then}
 use Rattle.report.proofs.nodes.put_node_line.Statement.{statement}
 use Rattle.report.proofs.nodes.put_node_line.Tie as tie
-use Rattle.report.proofs.nodes.put_node_line.Reads as reads
-use Rattle.report.proofs.nodes.put_node_line.Lts as lts
-use Rattle.report.proofs.nodes.put_node.Reads as put-node-reads
-use Rattle.report.proofs.text.put.Reads as put-reads
-use Rattle.report.proofs.text.put_decimal.Reads as put-decimal-reads
 
--- src/nodes.rt:54:9
 put-decimal-requires : tie.Need-put-decimal-requires
 put-decimal-requires c κs = search needs
 
--- src/nodes.rt:55:9
 put-node-requires : tie.Need-put-node-requires
 put-node-requires c κs = search needs
 
--- src/nodes.rt:56:26
 slice-aggregate-put : tie.Need-slice-aggregate-put
 slice-aggregate-put c = search needs
 
--- src/nodes.rt:56:5
 put-requires : tie.Need-put-requires
 put-requires c κs = search needs
 
--- src/nodes.rt:50:1
 same-length : tie.Need-same-length
 same-length c = search needs
 
--- src/nodes.rt:50:1
 returns : tie.Need-returns
 returns c = (
   then (then (c .before .before .before .before .before .before .before .before .before .before .before .put-decimal .ensures .0) (c .before .before .before .before .before .before .before .put-node .ensures .0)) (c .before .before .put .ensures),

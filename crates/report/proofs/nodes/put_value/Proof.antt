@@ -7,71 +7,53 @@ use Rattle.rules.specs.Report.{value-name}
 use Rattle.report.proofs.Laws.{retext}
 use Rattle.report.proofs.nodes.put_value.Statement.{statement}
 use Rattle.report.proofs.nodes.put_value.Tie as tie
-use Rattle.report.proofs.nodes.put_value.Reads as reads
-use Rattle.report.proofs.nodes.put_value.Lts as lts
-use Rattle.report.proofs.text.put.Reads as put-reads
 
--- src/nodes.rt:18:28
 enum-told : tie.Need-enum-told
 enum-told c = search needs
 
--- src/nodes.rt:18:37
 slice-aggregate-put : tie.Need-slice-aggregate-put
 slice-aggregate-put c = search needs
 
--- src/nodes.rt:18:24
 put-requires : tie.Need-put-requires
 put-requires c κs = search needs
 
--- src/nodes.rt:19:27
 enum-told-2 : tie.Need-enum-told-2
 enum-told-2 c = search needs
 
--- src/nodes.rt:19:36
 slice-aggregate-put-2 : tie.Need-slice-aggregate-put-2
 slice-aggregate-put-2 c = search needs
 
--- src/nodes.rt:19:23
 put-requires-2 : tie.Need-put-requires-2
 put-requires-2 c κs = search needs
 
--- src/nodes.rt:20:28
 enum-told-3 : tie.Need-enum-told-3
 enum-told-3 c = search needs
 
--- src/nodes.rt:20:37
 slice-aggregate-put-3 : tie.Need-slice-aggregate-put-3
 slice-aggregate-put-3 c = search needs
 
--- src/nodes.rt:20:24
 put-requires-3 : tie.Need-put-requires-3
 put-requires-3 c κs = search needs
 
--- src/nodes.rt:13:1
 same-length : tie.Need-same-length
 same-length c = search needs
 
--- src/nodes.rt:13:1
 returns : tie.Need-returns
 unfolding text
 returns c =
     (retext (sym (ap value-name (c .before .before .before .before .before .enum-told .given .1))) (c .before .before .put .ensures), omega (arith, c .before .before .put .ensures .next-is))
 
--- src/nodes.rt:13:1
 same-length-2 : tie.Need-same-length-2
 same-length-2 c = search needs
 
--- src/nodes.rt:13:1
 returns-2 : tie.Need-returns-2
 unfolding text
 returns-2 c =
     (retext (sym (ap value-name (c .before .before .before .before .before .enum-told2 .given .1))) (c .before .before .put2 .ensures), omega (arith, c .before .before .put2 .ensures .next-is))
 
--- src/nodes.rt:13:1
 same-length-3 : tie.Need-same-length-3
 same-length-3 c = search needs
 
--- src/nodes.rt:13:1
 returns-3 : tie.Need-returns-3
 unfolding text
 returns-3 c =

@@ -8,8 +8,6 @@ use lib.Seq.{paste, paste-zero, paste-suc, length-paste, take-paste, drop-paste,
 use Rattle.report.proofs.Laws.{turn, all-pasted}
 use Rattle.report.proofs.text.put.Statement.{statement}
 use Rattle.report.proofs.text.put.Tie as tie
-use Rattle.report.proofs.text.put.Reads as reads
-use Rattle.report.proofs.text.put.Lts as lts
 
 abbrev Inv-loop : tie.InvT-loop
 Inv-loop out₀ at bytes i₀ out i = (out ≡ paste out₀ at bytes i) × (i ≤ length bytes) × (length out ≡ length out₀)

@@ -9,10 +9,6 @@ use lib.Seq.{take-all}
 use Rattle.report.proofs.Laws.{Digits, digits-begin, room-left, digits-more, digits-end, length-decimal, retext}
 use Rattle.report.proofs.text.put_decimal.Statement.{statement}
 use Rattle.report.proofs.text.put_decimal.Tie as tie
-use Rattle.report.proofs.text.put_decimal.Reads as reads
-use Rattle.report.proofs.text.put_decimal.Lts as lts
-use Rattle.report.proofs.text.last_digit.Reads as last-digit-reads
-use Rattle.report.proofs.text.put.Reads as put-reads
 
 abbrev Inv-loop : tie.InvT-loop
 Inv-loop out at n digits₀ from₀ left₀ digits from left = Digits n digits from left

@@ -1,0 +1,71 @@
+-- What is printed from checking's reply and the tables that it leaves is what 01 says for the two files.
+use mathlib.Core.Path.{_≡_, refl, sym, _∙_, ap, subst}
+use mathlib.Core.List.{List, [], _∷_, _++_, map}
+use mathlib.Core.Bool.{Bool, true, false}
+use Prim.Native.Nat.{ℕ, zero, suc, _+_, _≤_, _<_}
+use native.Mathlib.Omega.{arith}
+use lib.Dec.{eqb, ltb}
+use lib.ListN.{length}
+use borrow.Author.Tests.{eq-eqb, ne-eqb}
+use Rattle.rules.specs.declared.Reply.{Reply}
+use Rattle.rules.specs.Limits.{text-most}
+use Rattle.rules.specs.Formula.{Formula}
+use Rattle.rules.specs.Lines.{Row}
+use Rattle.rules.specs.Checking.{Checked, checked}
+use Rattle.rules.specs.Checking.Checked.{rejected, accepted}
+use Rattle.rules.specs.Tables.{Leaves, prefix-after, nodes-after, roots-after}
+use Rattle.rules.specs.Services.{Lent, Answer, refused-early, check-answer, short-tables, checking}
+use Rattle.rules.specs.Listed.{check-listed}
+use Rattle.rules.specs.Report.{refused-line, accepted-text, report, printed, maps-text}
+use Rattle.report.specs.Written.{accepted-line}
+use Rattle.report.specs.Tabled.{reply-text, accepted-tables, Printable}
+use Rattle.report.proofs.Accepted.{accepted-maps, accepted-printable}
+
+-- a reply 0, and another
+pub reply-accepted : (r : Reply) (prefix nodes roots : List ℕ) → r .number ≡ 0 → reply-text r prefix nodes roots ≡ accepted-tables prefix nodes roots (r .lines)
+unfolding reply-text
+reply-accepted r prefix nodes roots e = rw (eq-eqb (r .number) 0 e, reply-text)
+
+pub reply-refused : (r : Reply) (prefix nodes roots : List ℕ) → (r .number ≡ 0 → ⊥) → reply-text r prefix nodes roots ≡ refused-line (r .number) (r .place) (r .variable)
+unfolding reply-text
+reply-refused r prefix nodes roots e = rw (ne-eqb (r .number) 0 e, reply-text)
+
+-- an answer with the tables that it leaves: they can be printed, and this is printed
+abbrev Prints : List ℕ → List ℕ → List ℕ → List ℕ → List ℕ → List ℕ → Answer → List ℕ → Type 0
+Prints lp ln lr prefix nodes roots a t =
+    prefix ≡ prefix-after (a .leaves) lp → nodes ≡ nodes-after (a .leaves) ln → roots ≡ roots-after (a .leaves) lr
+    → (a .reply .number ≡ 0 → Printable prefix nodes roots (a .reply .lines)) × (reply-text (a .reply) prefix nodes roots ≡ t)
+
+module _ (text proof lp ln lr prefix nodes roots : List ℕ) (prefix-long : 64 ≤ length lp) (nodes-long : 16384 ≤ length ln) (roots-long : 16384 ≤ length lr) where
+  early : Prints lp ln lr prefix nodes roots (refused-early 1) (refused-line 1 0 0)
+  early p n r = ((λ e. absurd (omega arith)), reply-refused _ prefix nodes roots (λ e. omega arith))
+
+  by-checked : (c : Checked) → checked text proof ≡ c → Prints lp ln lr prefix nodes roots (check-answer c) (report c)
+  unfolding accepted-text
+  by-checked (rejected m at v) e p n r =
+      let h : m ≡ 0 → ⊥ = λ z. omega (arith, check-listed text proof m at v e) in
+      ((λ z. absurd (h z)), reply-refused _ prefix nodes roots h)
+  by-checked (accepted F rows) e p n r = (
+    (λ z. accepted-printable text proof F rows e lp ln lr prefix nodes roots p n r prefix-long nodes-long roots-long),
+    reply-accepted _ prefix nodes roots refl
+        ∙ ap (λ (l : List ℕ). accepted-line (length rows) ++ l) (accepted-maps text proof F rows e lp ln lr prefix nodes roots p n r prefix-long nodes-long roots-long),
+  )
+
+  -- by the text's length
+  answer : Bool → Answer
+  answer long = elim long [ true ↦ refused-early 1 | false ↦ check-answer (checked text proof) ]
+
+  said : Bool → List ℕ
+  said long = elim long [ true ↦ refused-line 1 0 0 | false ↦ report (checked text proof) ]
+
+  by-length : (long : Bool) → Prints lp ln lr prefix nodes roots (answer long) (said long)
+  unfolding answer said
+  by-length true = early
+  by-length false = by-checked (checked text proof) refl
+
+  pub printed-reply : (T : Lent) → short-tables T ≡ false → Prints lp ln lr prefix nodes roots (checking text proof T) (printed text proof)
+  unfolding checking printed answer said
+  printed-reply T s =
+      let same : checking text proof T ≡ answer (ltb text-most (length text)) =
+      ap (λ (b : Bool). elim b as (λ _. Answer) [ true ↦ refused-early 2 | false ↦ answer (ltb text-most (length text)) ]) s in
+      subst (λ (a : Answer). Prints lp ln lr prefix nodes roots a (printed text proof)) (sym same) (by-length (ltb text-most (length text)))
