@@ -24,7 +24,7 @@ module _ (T U : Column) (n : ℕ) (same : (k : ℕ) → k ≤ n → U k ≡ T k)
   reached-back h S (low {i = i} g e) = let b = reached-back h S g in low b (sym (agree h S i b) ∙ e)
   reached-back h S (high {i = i} g e) = let b = reached-back h S g in high b (sym (agree h S i b) ∙ e)
 
-  sound-there : {r : ℕ} → r ≤ n → Sound T r → Sound U r
+  pub sound-there : {r : ℕ} → r ≤ n → Sound T r → Sound U r
   sound-there h S = record {
     some = λ i g. let b = reached-back h S g in λ e. S .some i b (sym (agree h S i b) ∙ e);
     falling = λ i x a b g e. let o = reached-back h S g in S .falling i x a b o (sym (agree h S i o) ∙ e);

@@ -5,3 +5,4 @@ pub mod Leaves
 pub mod Formulas
 pub mod Joins
 pub mod Selects
+pub mod MapRows

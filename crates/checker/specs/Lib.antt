@@ -3,3 +3,4 @@ pub mod Rows
 pub mod Makes
 pub mod Resolutions
 pub mod Selects
+pub mod MapRows
