@@ -1,0 +1,51 @@
+// Replies: 01's number and values for each answer.
+use formula::reading::Outcome;
+use rules::Reply;
+ghost use mathlib.Core.Path.{_≡_};
+ghost use Rattle.rules.specs.Services.{refusal};
+ghost use Rattle.formula.specs.Readings.{reply-of};
+
+// The refusal with this number, at no place.
+pub fn refused(number: u32) -> Reply
+    ensures { λ r. ⌜ r ≡ refusal number 0 0 ⌝ }
+{
+    Reply {
+        number,
+        place: 0,
+        variable: 0,
+        variables: 0,
+        clauses: 0,
+        universals: 0,
+        lines: 0,
+    }
+}
+
+// The reply that says what a text reads to.
+pub fn read_reply(outcome: Outcome) -> Reply
+    ensures { λ r. ⌜ r ≡ reply-of outcome ⌝ }
+{
+    match outcome {
+        Outcome::Refused(number, place) => Reply {
+            number,
+            place,
+            variable: 0,
+            variables: 0,
+            clauses: 0,
+            universals: 0,
+            lines: 0,
+        },
+        Outcome::Formula {
+            variables,
+            clauses,
+            universals,
+        } => Reply {
+            number: 0,
+            place: 0,
+            variable: 0,
+            variables,
+            clauses,
+            universals,
+            lines: 0,
+        },
+    }
+}
