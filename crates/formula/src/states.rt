@@ -226,8 +226,8 @@ fn block_token(s: State, universal: bool, some: bool, word: &[u8], at: usize) ->
     if s.variables < v {
         return Next::Refused(NO_VARIABLE, at);
     }
-    let bound = s.bound;
-    if bound.has(v) {
+    let taken = s.bound;
+    if taken.has(v) {
         return Next::Refused(BOUND_TWICE, at);
     }
     if universal {
