@@ -31,37 +31,37 @@ module _ (es : Variables) (k : ℕ) (lines : List ℕ) (i : ℕ) (r : Resolution
 
   pub joins-a : earlier i (r .a) ≡ false → j .refusal ≡ 24 → Joins-so
   unfolding first-of
-  joins-a a e = rw a (e, omega arith)
+  joins-a a e = rw a (e, omega arith, refl)
 
   module _ (a : earlier i (r .a) ≡ true) where
     pub joins-b : earlier i (r .b) ≡ false → j .refusal ≡ 24 → Joins-so
     unfolding first-of
-    joins-b b e = rw (a, b) (e, omega arith)
+    joins-b b e = rw (a, b) (e, omega arith, refl)
 
     module _ (b : earlier i (r .b) ≡ true) where
       pub joins-pivot : has es (r .pivot) ≡ false → j .refusal ≡ 25 → Joins-so
       unfolding first-of
-      joins-pivot x e = rw (a, b, x) (e, omega arith)
+      joins-pivot x e = rw (a, b, x) (e, omega arith, refl)
 
       module _ (x : has es (r .pivot) ≡ true) where
         pub joins-plain : has (clause-part lines (r .a) .plain) (r .pivot) ≡ false → j .refusal ≡ 26 → Joins-so
         unfolding first-of
-        joins-plain p e = rw (a, b, x, p) (e, omega arith)
+        joins-plain p e = rw (a, b, x, p) (e, omega arith, refl)
 
         module _ (p : has (clause-part lines (r .a) .plain) (r .pivot) ≡ true) where
           pub joins-negated : has (clause-part lines (r .b) .negated) (r .pivot) ≡ false → j .refusal ≡ 27 → Joins-so
           unfolding first-of
-          joins-negated n e = rw (a, b, x, p, n) (e, omega arith)
+          joins-negated n e = rw (a, b, x, p, n) (e, omega arith, refl)
 
           module _ (n : has (clause-part lines (r .b) .negated) (r .pivot) ≡ true) where
             pub joins-set : 2 ^ k ≤ r .merge → j .refusal ≡ 28 → Joins-so
             unfolding first-of
-            joins-set m e = rw (a, b, x, p, n, le-leb _ _ m) (e, omega arith)
+            joins-set m e = rw (a, b, x, p, n, le-leb _ _ m) (e, omega arith, refl)
 
             module _ (m : r .merge < 2 ^ k) where
               pub joins-two : two-faced (table-result lines r) ≡ true → j .refusal ≡ 29 → Joins-so
               unfolding first-of
-              joins-two t e = rw (a, b, x, p, n, lt-leb _ _ m, t) (e, omega arith)
+              joins-two t e = rw (a, b, x, p, n, lt-leb _ _ m, t) (e, omega arith, refl)
 
               pub joins-all : two-faced (table-result lines r) ≡ false → j .refusal ≡ 0 → clause-of (j .clause) ≡ table-result lines r → Joins-so
               unfolding first-of

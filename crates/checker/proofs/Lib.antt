@@ -6,3 +6,5 @@ pub mod Formulas
 pub mod Joins
 pub mod Selects
 pub mod MapRows
+pub mod Resolves
+pub mod Nexts

@@ -1,7 +1,7 @@
 -- What a line makes, by value, and the formula as checking has it: its game and its clause table.
 use mathlib.Core.Path.{_≡_}
 use mathlib.Core.List.{List, [], _∷_}
-use Prim.Native.Nat.{ℕ, _≤_, _<_}
+use Prim.Native.Nat.{ℕ, suc, _≤_, _<_}
 use lib.ListN.{length}
 use Rattle.rules.specs.Limits.{clause-words, line-words, map-words, lines-most}
 use Rattle.rules.specs.Formula.{Formula}
@@ -36,3 +36,18 @@ pub record Standing (F : Formula) (rows : List Row) (lines lines₀ nodes nodes�
   pub in-lines : lines ≡ holding line-words (line-table F rows) lines₀
   pub in-nodes : nodes ≡ holding map-words (node-table F rows) nodes₀
   pub in-roots : roots ≡ holding map-words (root-table F rows) roots₀
+
+-- line i comes after the rows
+pub record Ready (F : Formula) (rows : List Row) (g : Game) (clauses lines lines₀ nodes nodes₀ roots roots₀ : List ℕ) (i : ℕ) : Type 0 where
+  pub whole : Whole F g clauses
+  pub standing : Standing F rows lines lines₀ nodes nodes₀ roots roots₀
+  pub line : i ≡ suc (length rows)
+  pub within : i ≤ lines-most
+  pub long-lines : line-words ≤ length lines
+  pub long-nodes : map-words ≤ length nodes
+  pub long-roots : map-words ≤ length roots
+
+-- some formula's rows
+abbrev pub Ready-tables : Game → List ℕ → List ℕ → List ℕ → List ℕ → ℕ → Type 0
+Ready-tables g clauses lines nodes roots i =
+    (F : Formula) × (rows : List Row) × (lines₀ : List ℕ) × (nodes₀ : List ℕ) × (roots₀ : List ℕ) × Ready F rows g clauses lines lines₀ nodes nodes₀ roots roots₀ i

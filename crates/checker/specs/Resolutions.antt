@@ -36,4 +36,4 @@ clause-tests es k lines i r =
 -- the clause, or the number of the first test that fails
 abbrev pub Joins : Found → Literals → Joined → Type 0
 Joins passes c j = (j .refusal ≡ 0) × (clause-of (j .clause) ≡ c)
-Joins (fails n v) c j = (j .refusal ≡ n) × (1 ≤ n)
+Joins (fails n v) c j = (j .refusal ≡ n) × (1 ≤ n) × (v ≡ 0)

@@ -46,6 +46,28 @@ module _ (s : List ℕ) where
   unfolding decoded
   decoded-kind k t = simp (decoded, ne-eqb _ _ k, ne-eqb _ _ t)
 
+  -- a refusal has its number
+  pub refused-number : (n : ℕ) → decoded s ≡ D.Refused n → 1 ≤ n
+  refused-number n e = first (eqb (getD s 0 0) 1) refl
+    where
+      told : (k : ℕ) → 1 ≤ k → decoded s ≡ D.Refused k → 1 ≤ n
+      told k h p = let q : D.Refused n ≡ D.Refused k = sym e ∙ p in let z : n ≡ k = cc in omega arith
+
+      none : (l : Line) → decoded s ≡ D.Line l → 1 ≤ n
+      none l p = let q : D.Refused n ≡ D.Line l = sym e ∙ p in let z : _≡_ {A = ℕ} 0 1 = cc in absurd (omega arith)
+
+      second : (getD s 0 0 ≡ 1 → ⊥) → (t : Bool) → eqb (getD s 0 0) 2 ≡ t → 1 ≤ n
+      second o true t = none _ (decoded-resolution o (eqb-true (getD s 0 0) 2 t))
+      second o false t = told bad-kind (omega arith) (decoded-kind o (eqb-false (getD s 0 0) 2 t))
+
+      bare : getD s 0 0 ≡ 1 → (t : Bool) → bare-tail s ≡ t → 1 ≤ n
+      bare o true t = none _ (decoded-axiom o t)
+      bare o false t = told axiom-tail (omega arith) (decoded-tail o t)
+
+      first : (t : Bool) → eqb (getD s 0 0) 1 ≡ t → 1 ≤ n
+      first true t = bare (eqb-true (getD s 0 0) 1 t) (bare-tail s) refl
+      first false t = second (eqb-false (getD s 0 0) 1 t) (eqb (getD s 0 0) 2) refl
+
 -- ---- out and back
 -- two bytes make their number
 pair-back : (n : ℕ) → n % 256 + n / 256 * 256 ≡ n
