@@ -58,10 +58,10 @@ module _ (F : Formula) (rows : List Row) (g : Game) (clauses lines lines₀ node
       let l : a < length rows = omega (arith, S .line) in
       let m : suc a - 1 ≡ a = omega arith in
       let W : Wide (2 * set-words) (λ (r : Row). clause-row (r .clause)) no-row rows
-            = λ k p. length-clause-row _ (good-words (house F) F rows (suc k) (S .standing .good (suc k) (omega arith) (omega arith))) in
+      = λ k p. length-clause-row _ (good-words (house F) F rows (suc k) (S .standing .good (suc k) (omega arith) (omega arith))) in
       rw m (
-        ap clause-in (table-part (2 * set-words) line-words (λ (r : Row). clause-row (r .clause)) no-row rows lines₀ lines W (S .standing .in-lines) a l)
-        ∙ clause-in-row (clause-at rows (suc a)) (good-words (house F) F rows (suc a) (S .standing .good (suc a) o (omega arith)))
+      ap clause-in (table-part (2 * set-words) line-words (λ (r : Row). clause-row (r .clause)) no-row rows lines₀ lines W (S .standing .in-lines) a l)
+      ∙ clause-in-row (clause-at rows (suc a)) (good-words (house F) F rows (suc a) (S .standing .good (suc a) o (omega arith)))
       )
 
   module _ (r : Resolution) where
