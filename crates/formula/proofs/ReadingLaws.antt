@@ -1,20 +1,19 @@
 -- A text read token by token: what is left from each place gives the same, and the tables hold what is read so far.
 use mathlib.Core.Path.{_≡_, refl, sym, ap, ap₂, _∙_, subst}
 use mathlib.Core.Bool.{Bool, true, false, cond}
-use mathlib.Core.List.{List, [], _∷_, _++_, map, append-assoc}
-use Prim.Native.Nat.{ℕ, zero, suc, _+_, _-_, _*_, _≤_, _<_, zero-le}
+use mathlib.Core.List.{List, [], _∷_, _++_, map}
+use Prim.Native.Nat.{ℕ, suc, _+_, _-_, _*_, _≤_, _<_, zero-le}
 use native.Mathlib.Omega.{arith}
-use native.Mathlib.Numerals.{add-one}
-use lib.Dec.{leb}
 use lib.ListN.{length, set, take, drop, length-append}
-use lib.Seq.{sets-eq}
+use lib.Seq.{drop-drop}
+use borrow.Rule.Slice.PartMut.{putMid}
 use borrow.Author.Tests.{le-leb, lt-leb}
-use Rattle.rules.specs.Limits.{prefix-words, clause-words, variables-most, clauses-most, clause-count}
+use Rattle.rules.specs.Limits.{set-words, prefix-words, clause-words, variables-most, clauses-most, clause-count}
 use Rattle.rules.specs.Formula as formula
-use Rattle.rules.specs.Formula.{Bound, Formula, universals, completed}
+use Rattle.rules.specs.Formula.{Bound, Formula, completed}
 use Rattle.rules.specs.Text.{separator, token-byte, lead, Token, tokens, Rest, uncommented}
 use Rattle.rules.specs.Reading as reading
-use Rattle.rules.specs.Reading.{Reading, Next, read-from, step, end-at, between-clauses, formula-of, complete}
+use Rattle.rules.specs.Reading.{Reading, read-from, step, end-at, between-clauses, formula-of, complete}
 use Rattle.rules.specs.Reading.Reading.{unread, formula as read-formula}
 use Rattle.rules.specs.Reading.Place.{at-mark, at-cnf, at-variables, at-count, at-block, in-block, at-clause, in-clause}
 use Rattle.rules.specs.Reading.Next.{stop, go}
@@ -114,13 +113,14 @@ module _ (s : List ℕ) (st : reading.State) (at end past : ℕ) (t : Token-at s
       ap (read-from (length s) st′) (sym (from-skip s end past (t .skips)))
       ∙ sym (first ∙ read-goes (length s) st st′ (record { at = at; bytes = word-at s at end }) (tokens false (drop end s) end) e)
 
--- ---- a clause's two words, stored one after the other
-pub two-stores : (l : List ℕ) (i : ℕ) (c : Clause) → 2 * i + 2 ≤ length l
-    → set (set l (2 * i) (c .plain .word)) (2 * i + 1) (c .negated .word) ≡ take (2 * i) l ++ (clause-row (clause-of c) ++ drop (2 * i + 2) l)
-unfolding clause-of set-of
-two-stores l i c h =
-    rw (add-one (2 * i)) (sets-eq (c .plain .word ∷ c .negated .word ∷ []) l (2 * i) h)
-    ∙ append-assoc (take (2 * i) l) (c .plain .word ∷ c .negated .word ∷ []) (drop (2 * i + 2) l)
+-- ---- a clause's row, lent and come back
+pub row-width : (w : ℕ) → w ≡ 2 * set-words → w ≡ 2
+unfolding set-words
+row-width w e = e
+
+pub row-back : (t ys r : List ℕ) (w i : ℕ) → w ≡ 2 → ys ≡ r → putMid (w * i) (w * i + w - w * i) t ys ≡ take (2 * i) t ++ (r ++ drop (2 * i + 2) t)
+unfolding putMid
+row-back t ys r w i e f = let k : 2 * i + (2 * i + 2 - 2 * i) ≡ 2 * i + 2 = omega arith in rw (e, f, drop-drop) (rw k)
 
 -- ---- the loop over the tokens
 -- what is read before a place: a state that stands for blocks and clauses, which the tables hold; the rest gives what the whole gives

@@ -1,19 +1,19 @@
 -- States that stand for blocks and clauses: within their limits, and what stands after one token more.
 use mathlib.Core.Path.{_≡_, refl, sym, ap, _∙_, subst}
-use mathlib.Core.Bool.{Bool, true, false, cond, _||_, or-comm, or-false}
+use mathlib.Core.Bool.{Bool, true, false, _||_, or-comm, or-false}
 use mathlib.Core.Logic.{by-cases}
 use mathlib.Core.List.{List, [], _∷_, _++_}
-use Prim.Native.Nat.{ℕ, zero, suc, _+_, _*_, _≤_, _<_}
+use Prim.Native.Nat.{ℕ, zero, suc, _+_, _≤_, _<_}
 use native.Mathlib.Omega.{arith}
 use native.Mathlib.Decide.{decLt}
 use lib.Dec.{eqb}
 use lib.ListN.{length, length-append}
 use borrow.Author.Tests.{eq-eqb, ne-eqb, le-leb, lt-leb}
-use Rattle.rules.specs.Limits.{variables-most, universals-most, clauses-most, universal-mark, word-bits, set-words}
-use Rattle.rules.specs.Sets.{none, has, with}
+use Rattle.rules.specs.Limits.{variables-most, universals-most, clauses-most, universal-mark, set-words}
+use Rattle.rules.specs.Sets.{has}
 use Rattle.rules.specs.SetLaws.{has-none, has-with}
 use Rattle.rules.specs.Formula as formula
-use Rattle.rules.specs.Formula.{Quant, Bound, bound, universals}
+use Rattle.rules.specs.Formula.{Bound, bound, universals}
 use Rattle.rules.specs.FormulaLaws.{eqb-comm, bound-snoc, length-snoc, universals-snoc-exists, universals-snoc-forall}
 use Rattle.rules.specs.Reading as reading
 use Rattle.rules.specs.Reading.Next.{go}

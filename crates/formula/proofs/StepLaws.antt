@@ -1,22 +1,22 @@
 -- One token at each place (01, Formula text): which tests lead to which refusal or next state.
 use mathlib.Core.Path.{_≡_, refl, sym, ap, _∙_, subst}
 use mathlib.Core.Bool.{Bool, true, false, cond, not, true≢false, false≢true}
-use mathlib.Core.List.{List, [], _∷_, _++_}
-use Prim.Native.Nat.{ℕ, zero, suc, _+_, _≤_, _<_}
+use mathlib.Core.List.{List, [], _∷_}
+use Prim.Native.Nat.{ℕ, zero, suc, _≤_, _<_}
 use native.Mathlib.Omega.{arith}
-use lib.Dec.{leb, ltb}
+use lib.Dec.{ltb}
 use lib.IntN.{ℤ, pos, negsuc}
 use lib.ListN.{length}
 use borrow.Author.Tests.{lt-ltb, le-ltb, le-leb, lt-leb}
-use Rattle.rules.specs.Limits.{bad-token, header-limit, no-variable, bound-twice, too-many-universals, not-bound, both-ways, clause-count, universals-most}
-use Rattle.rules.specs.Faults.{Fault, fault, Found, first-of}
+use Rattle.rules.specs.Limits.{bad-token, header-limit, no-variable, bound-twice, too-many-universals, not-bound, both-ways, clause-count}
+use Rattle.rules.specs.Faults.{Fault, fault, first-of}
 use Rattle.rules.specs.Faults.Found.{passes, fails}
 use Rattle.rules.specs.Formula as formula
-use Rattle.rules.specs.Formula.{Quant, Clause, no-literal, bound, universal?, universals, has-opposite, with-literal}
+use Rattle.rules.specs.Formula.{Quant, Clause, no-literal, bound, has-opposite, with-literal}
 use Rattle.rules.specs.Formula.Quant.{exists, forall}
 use Rattle.rules.specs.Text.{Number, number-of, spelled}
 use Rattle.rules.specs.Text.Number.{number, no-number}
-use Rattle.rules.specs.Reading.{State, Next, Place, moved, unless, limited, bind, full, block-token, clause-ended, literal-token, clause-token, begin-clause, block-place, expect, step-at, step, word-a, word-e}
+use Rattle.rules.specs.Reading.{State, Next, moved, unless, limited, bind, full, block-token, clause-ended, literal-token, clause-token, begin-clause, block-place, expect, step-at, step, word-a, word-e}
 use Rattle.rules.specs.Reading.Next.{stop, go}
 use Rattle.rules.specs.Reading.Place.{at-block, in-block, in-clause}
 use Rattle.formula.specs.declared.numbers.Literal.{Literal}

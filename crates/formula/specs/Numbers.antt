@@ -1,5 +1,5 @@
 -- A token's answer and a literal, from the number that the token spells (01, Formula text).
-use mathlib.Core.Bool.{Bool, true, false}
+use mathlib.Core.Bool.{true, false}
 use Prim.Native.Nat.{ℕ, suc}
 use lib.IntN.{ℤ, pos, negsuc}
 use Rattle.rules.specs.Limits.{bad-token}

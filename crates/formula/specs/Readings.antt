@@ -1,11 +1,11 @@
 -- What reading a text answers and leaves in the tables, by what the text reads to (01, Formula text).
 use mathlib.Core.Path.{_≡_, refl}
-use mathlib.Core.List.{List, [], _∷_, map}
+use mathlib.Core.List.{List, map}
 use Prim.Native.Nat.{ℕ, _≤_}
 use lib.ListN.{length}
 use native.Mathlib.Omega.{arith}
 use Rattle.rules.specs.declared.Reply.{Reply}
-use Rattle.rules.specs.Limits.{prefix-words, clause-words, variables-most, clauses-most}
+use Rattle.rules.specs.Limits.{prefix-words, clause-words, variables-most}
 use Rattle.rules.specs.Formula.{Bound, Clause, Formula, universals}
 use Rattle.rules.specs.Reading as definition
 use Rattle.rules.specs.Reading.{Reading, read}

@@ -17,7 +17,7 @@ use sets::Clause;
 ghost use mathlib.Core.Path.{_≡_};
 ghost use mathlib.Core.Bool.{false};
 ghost use mathlib.Core.List.{[], _++_};
-ghost use Prim.Native.Nat.{ℕ, _+_, _*_, _≤_};
+ghost use Prim.Native.Nat.{_+_, _*_, _≤_};
 ghost use lib.ListN.{length, take, drop};
 ghost use Rattle.rules.specs.Limits.{text-most, prefix-words, clause-words};
 ghost use Rattle.rules.specs.Text.{tokens};
@@ -72,16 +72,15 @@ fn finish(s: State, n: usize) -> Outcome
     }
 }
 
-// A clause's two words, behind so many clauses.
+// A clause's row, behind so many clauses.
 fn put_clause(clauses: &mut [u64], done: usize, c: Clause)
     requires { ⌜ 2 * done + 2 ≤ length (now clauses) ⌝ }
     ensures { λ _. ⌜ now (clauses .exit) ≡ take (2 * done) (now (clauses .entry)) ++ (clause-row (clause-of c) ++ drop (2 * done + 2) (now (clauses .entry))) ⌝ }
 {
-    let at = 2 * done;
-    let plain = c.plain;
-    let negated = c.negated;
-    clauses[at] = plain.word;
-    clauses[at + 1] = negated.word;
+    let width = Clause::words();
+    let at = width * done;
+    let end = at + width;
+    c.write(&mut clauses[at..end]);
 }
 
 // The tokens from a place on, with the tables cleared.

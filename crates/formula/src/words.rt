@@ -1,8 +1,8 @@
 // Bytes to tokens: separators, comments, where a token begins and where it ends.
 ghost use mathlib.Core.Path.{_≡_};
-ghost use mathlib.Core.Bool.{Bool, true, false};
+ghost use mathlib.Core.Bool.{true, false};
 ghost use mathlib.Core.List.{_∷_, []};
-ghost use Prim.Native.Nat.{ℕ, _+_, _≤_, _<_};
+ghost use Prim.Native.Nat.{_+_, _≤_, _<_};
 ghost use lib.ListN.{length, drop};
 ghost use Rattle.rules.specs.Text.{separator, token-byte, lead, uncommented, spelled};
 ghost use Rattle.rules.specs.Reading.{word-cnf};

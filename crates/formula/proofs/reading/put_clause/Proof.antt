@@ -1,44 +1,51 @@
 -- `reading::put_clause` meets its contract.
 use native.Mathlib.Omega.{arith}
-use lib.ListN.{length-set}
-use Rattle.formula.proofs.ReadingLaws.{two-stores}
+use Rattle.formula.proofs.ReadingLaws.{row-width, row-back}
 use borrow.Author.Needs.{needs}
 use Rattle.formula.proofs.reading.put_clause.Statement.{statement}
 use Rattle.formula.proofs.reading.put_clause.Tie as tie
 
+words-requires : tie.Need-words-requires
+words-requires c κs = search needs
+
 mul-at : tie.Need-mul-at
-mul-at c = search needs
+mul-at c = rw (row-width (c .words .result) (c .words .ensures)) (record { fits = omega (arith, c .before .before .pre) })
 
-mul-clauses : tie.Need-mul-clauses
-mul-clauses c = search needs
+add-end : tie.Need-add-end
+add-end c = rw (row-width (c .words .result) (c .words .ensures)) (record { fits = omega (arith, c .before .before .pre) })
 
-slice-write-clauses : tie.Need-slice-write-clauses
-slice-write-clauses c = search needs
+mul-write : tie.Need-mul-write
+mul-write c = rw (row-width (c .words .result) (c .words .ensures)) (record { fits = omega (arith, c .before .before .pre) })
 
-add-clauses : tie.Need-add-clauses
-add-clauses c = search needs
+sub-write : tie.Need-sub-write
+sub-write c = search needs
 
-mul-clauses-2 : tie.Need-mul-clauses-2
-mul-clauses-2 c = search needs
+part-write-start : tie.Need-part-write-start
+part-write-start c = search needs
 
-slice-write-clauses-2 : tie.Need-slice-write-clauses-2
-slice-write-clauses-2 c = simp length-set (omega arith)
+part-write-end : tie.Need-part-write-end
+part-write-end c = rw (row-width (c .words .result) (c .words .ensures)) (c .before .before .pre)
+
+write-requires : tie.Need-write-requires
+write-requires c κs = search needs
 
 same-length : tie.Need-same-length
 same-length c = search needs
 
 returns : tie.Need-returns
-returns c = two-stores _ _ _ (c .before .before .pre)
+returns c = row-back (c .before .before .before .before .before .before .args .clauses .now) _ _ (c .before .before .before .before .words .result) (c .before .before .before .before .before .before .args .done) (row-width (c .before .before .before .before .words .result) (c .before .before .before .before .words .ensures)) (c .before .before .write .ensures)
 
 pub put-clause-spec : {M : Type 1} → statement M
 put-clause-spec =
     tie.close
     (tie.spec
+    words-requires
     mul-at
-    mul-clauses
-    slice-write-clauses
-    add-clauses
-    mul-clauses-2
-    slice-write-clauses-2
+    add-end
+    mul-write
+    sub-write
+    part-write-start
+    part-write-end
+    write-requires
     same-length
     returns)

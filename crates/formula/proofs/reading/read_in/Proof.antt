@@ -1,9 +1,7 @@
 -- `reading::read_in` meets its contract: cleared tables, filled by the tokens, and cleared again where these are refused.
-use mathlib.Core.Path.{_≡_, _∙_}
 use mathlib.Core.List.{List}
-use Prim.Native.Nat.{ℕ, _≤_}
+use Prim.Native.Nat.{ℕ}
 use native.Mathlib.Omega.{arith}
-use lib.ListN.{length}
 use Rattle.rules.specs.Limits.{prefix-words, clause-words}
 use Rattle.formula.proofs.HoldingLaws.{cleared, cleared-length}
 use Rattle.formula.proofs.ReadingLaws.{left-refused, left-formula}

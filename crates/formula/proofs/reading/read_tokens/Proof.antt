@@ -1,10 +1,9 @@
 -- `reading::read_tokens` meets its contract: at each place of the loop the tables hold what is read so far, and the rest of the text gives what the whole gives.
 use mathlib.Core.Path.{refl}
-use Prim.Native.Nat.{ℕ, _-_, _<_}
+use Prim.Native.Nat.{_-_, _<_}
 use native.Mathlib.Omega.{arith}
 use borrow.Author.Needs.{needs}
 use lib.ListN.{length}
-use Rattle.rules.specs.Limits.{prefix-words, clause-words}
 use Rattle.formula.proofs.TokenLaws.{token-long}
 use Rattle.formula.proofs.ReadingLaws.{Token-at, Held, held-begin, held-small, held-go, held-bind, held-ended, bind-room, ended-room, prefix-length, clauses-length, refused-here, filled-refused, filled-ended}
 use Rattle.formula.proofs.reading.read_tokens.Statement.{statement}

@@ -4,8 +4,8 @@ use mathlib.Core.Path.{_≡_, refl, ap, _∙_, subst}
 use mathlib.Core.List.{List, _++_}
 use native.Mathlib.Omega.{arith}
 use native.Mathlib.Nat.{le-antisymm}
-use borrow.Author.Needs.{needs, scaled-fits}
-use borrow.Author.Fill.{fill-none, fill-more}
+use borrow.Author.Needs.{needs}
+use borrow.Author.Fill.{fill-more}
 use Rattle.formula.proofs.HoldingLaws.{holding-none}
 use lib.ListN.{length, set, drop, replicate, length-set}
 use Rattle.formula.proofs.tables.clear.Statement.{statement}

@@ -1,5 +1,4 @@
 -- `words::is_separator` meets its contract: the four tests in order.
-use mathlib.Core.Path.{_≡_, refl, sym, ap, _∙_}
 use Rattle.formula.proofs.TokenLaws.{separator-1, separator-2, separator-3, separator-4}
 use Rattle.formula.proofs.words.is_separator.Statement.{statement}
 use Rattle.formula.proofs.words.is_separator.Tie as tie

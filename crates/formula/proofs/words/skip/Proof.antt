@@ -1,11 +1,10 @@
 -- `words::skip` meets its contract: from each place of the loop the same place is reached.
-use mathlib.Core.Path.{_≡_, refl, sym, ap, _∙_}
-use mathlib.Core.Bool.{true, false, not}
-use Prim.Native.Nat.{ℕ, suc, _+_, _-_, _≤_, _<_}
+use mathlib.Core.Path.{_≡_, refl, sym, _∙_}
+use Prim.Native.Nat.{_+_, _-_, _≤_}
 use native.Mathlib.Omega.{arith}
 use borrow.Author.Needs.{needs}
-use lib.ListN.{length, getD, drop, length-drop}
-use Rattle.rules.specs.Text.{separator, token-byte, lead}
+use lib.ListN.{length, drop}
+use Rattle.rules.specs.Text.{separator, lead}
 use Rattle.formula.proofs.TokenLaws.{lead-in, lead-out, lead-end}
 use Rattle.formula.proofs.words.skip.Statement.{statement}
 use Rattle.formula.proofs.words.skip.Tie as tie

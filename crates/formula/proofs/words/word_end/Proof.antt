@@ -1,11 +1,11 @@
 -- `words::word_end` meets its contract: from each place of the loop the same place is reached.
 use mathlib.Core.Path.{_≡_, refl, sym, ap, _∙_}
-use mathlib.Core.Bool.{true, false, not}
-use Prim.Native.Nat.{ℕ, suc, _+_, _-_, _≤_, _<_}
+use mathlib.Core.Bool.{not}
+use Prim.Native.Nat.{_+_, _-_, _≤_}
 use native.Mathlib.Omega.{arith}
 use borrow.Author.Needs.{needs}
-use lib.ListN.{length, getD, drop, length-drop}
-use Rattle.rules.specs.Text.{separator, token-byte, lead}
+use lib.ListN.{length, drop}
+use Rattle.rules.specs.Text.{token-byte, lead}
 use Rattle.formula.proofs.TokenLaws.{lead-in, lead-out, lead-end}
 use Rattle.formula.proofs.words.word_end.Statement.{statement}
 use Rattle.formula.proofs.words.word_end.Tie as tie
