@@ -1,7 +1,7 @@
 // Formula text (01) to the prefix table and the clause table.
 mod limits;
-pub mod numbers;
+mod numbers;
 pub mod reading;
-pub mod states;
+mod states;
 pub mod tables;
-pub mod words;
+mod words;
