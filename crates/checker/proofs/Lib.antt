@@ -8,3 +8,4 @@ pub mod Selects
 pub mod MapRows
 pub mod Resolves
 pub mod Nexts
+pub mod Runs

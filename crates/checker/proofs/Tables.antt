@@ -71,7 +71,7 @@ module _ (n : ℕ) (ws lent : List ℕ) where
       ∙ List·getD-append (zeros (n - length ws)) (drop n lent) 0 (k - length ws) m
       ∙ getD-replicate {A = ℕ} (n - length ws) (k - length ws) 0 0 (omega arith)
 
-  padded-length : length ws ≤ n → length (padded n ws) ≡ n
+  pub padded-length : length ws ≤ n → length (padded n ws) ≡ n
   unfolding padded
   padded-length l = length-append ws (zeros (n - length ws)) ∙ omega (arith, zeros-length (n - length ws))
 

@@ -4,3 +4,4 @@ pub mod Makes
 pub mod Resolutions
 pub mod Selects
 pub mod MapRows
+pub mod Runs

@@ -5,4 +5,5 @@ pub mod lines;
 pub mod maps_row;
 pub mod resolutions;
 pub mod rows;
+pub mod run;
 pub mod select;
