@@ -9,3 +9,4 @@ pub mod MapRows
 pub mod Resolves
 pub mod Nexts
 pub mod Runs
+pub mod Checkings

@@ -29,7 +29,7 @@ use Rattle.checker.specs.declared.axioms.Made.{Made}
 use Rattle.checker.specs.declared.resolutions.Joined.{Joined}
 use Rattle.checker.specs.declared.maps_row.MapsMade.{MapsMade}
 use Rattle.checker.specs.Rows.{clause-part, Row-of}
-use Rattle.checker.specs.Makes.{Makes, Ready}
+use Rattle.checker.specs.Makes.{Makes, Standing, Ready}
 use Rattle.checker.specs.Resolutions.{table-result, clause-tests, Joins}
 use Rattle.checker.specs.MapRows.{Resolving, Maps-made}
 use Rattle.checker.proofs.Tables.{Wide, table-part}
@@ -49,21 +49,21 @@ unfolding first-of
 first-passes [] gs e = refl
 first-passes (f ∷ fs) gs e = let p = passes-cons f fs .0 e in rw (first-of, p .0) (first-passes fs gs (p .1))
 
-module _ (F : Formula) (rows : List Row) (g : Game) (clauses lines lines₀ nodes nodes₀ roots roots₀ : List ℕ) (i : ℕ) (S : Ready F rows g clauses lines lines₀ nodes nodes₀ roots roots₀ i) where
-  -- the clause of line a, read from the line table
-  line-read : (a : ℕ) → 1 ≤ a → a < i → clause-part lines a ≡ clause-at rows a
-  unfolding row-at
-  line-read zero o h = absurd (omega arith)
-  line-read (suc a) o h =
-      let l : a < length rows = omega (arith, S .line) in
-      let m : suc a - 1 ≡ a = omega arith in
-      let W : Wide (2 * set-words) (λ (r : Row). clause-row (r .clause)) no-row rows
-      = λ k p. length-clause-row _ (good-words (house F) F rows (suc k) (S .standing .good (suc k) (omega arith) (omega arith))) in
-      rw m (
-      ap clause-in (table-part (2 * set-words) line-words (λ (r : Row). clause-row (r .clause)) no-row rows lines₀ lines W (S .standing .in-lines) a l)
-      ∙ clause-in-row (clause-at rows (suc a)) (good-words (house F) F rows (suc a) (S .standing .good (suc a) o (omega arith)))
-      )
+-- the clause of line a, read from the line table
+pub standing-read : (F : Formula) (rows : List Row) (lines lines₀ nodes nodes₀ roots roots₀ : List ℕ) → Standing F rows lines lines₀ nodes nodes₀ roots roots₀
+    → (a : ℕ) → 1 ≤ a → a ≤ length rows → clause-part lines a ≡ clause-at rows a
+unfolding row-at
+standing-read F rows lines lines₀ nodes nodes₀ roots roots₀ S zero o h = absurd (omega arith)
+standing-read F rows lines lines₀ nodes nodes₀ roots roots₀ S (suc a) o h =
+    let m : suc a - 1 ≡ a = omega arith in
+    let W : Wide (2 * set-words) (λ (r : Row). clause-row (r .clause)) no-row rows
+    = λ k p. length-clause-row _ (good-words (house F) F rows (suc k) (S .good (suc k) (omega arith) (omega arith))) in
+    rw m (
+    ap clause-in (table-part (2 * set-words) line-words (λ (r : Row). clause-row (r .clause)) no-row rows lines₀ lines W (S .in-lines) a h)
+    ∙ clause-in-row (clause-at rows (suc a)) (good-words (house F) F rows (suc a) (S .good (suc a) o h))
+    )
 
+module _ (F : Formula) (rows : List Row) (g : Game) (clauses lines lines₀ nodes nodes₀ roots roots₀ : List ℕ) (i : ℕ) (S : Ready F rows g clauses lines lines₀ nodes nodes₀ roots roots₀ i) where
   module _ (r : Resolution) where
     abbrev tests : List Fault
     tests = clause-tests (set-of (g .existentials)) (g .universals) lines i r
@@ -74,10 +74,10 @@ module _ (F : Formula) (rows : List Row) (g : Game) (clauses lines lines₀ node
     -- with both parents before line i the tests are the rules'
     module _ (a : earlier i (r .a) ≡ true) (b : earlier i (r .b) ≡ true) where
       read-a : clause-part lines (r .a) ≡ clause-at rows (r .a)
-      read-a = let p = earlier-iff i (r .a) .0 a in line-read (r .a) (p .0) (p .1)
+      read-a = let p = earlier-iff i (r .a) .0 a in standing-read F rows lines lines₀ nodes nodes₀ roots roots₀ (S .standing) (r .a) (p .0) (omega (arith, p .1, S .line))
 
       read-b : clause-part lines (r .b) ≡ clause-at rows (r .b)
-      read-b = let p = earlier-iff i (r .b) .0 b in line-read (r .b) (p .0) (p .1)
+      read-b = let p = earlier-iff i (r .b) .0 b in standing-read F rows lines lines₀ nodes nodes₀ roots roots₀ (S .standing) (r .b) (p .0) (omega (arith, p .1, S .line))
 
       result-same : table-result lines r ≡ result rows r
       result-same = ap₂ (λ (c d : Literals). resolvent c d (r .pivot)) read-a read-b

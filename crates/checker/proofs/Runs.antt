@@ -140,17 +140,18 @@ unfolding map-words
 few-words F rows proper good h word =
     omega (arith, rows-length universals-most (λ (r : Row). padded universals-most (map word (r .entries))) no-row rows (words-wide F proper rows good word))
 
+-- nothing past the words of a table is written
+pub kept-past : (F : Formula) → Proper F → (rows : List Row) (lines lines₀ nodes nodes₀ roots roots₀ : List ℕ) → Standing F rows lines lines₀ nodes nodes₀ roots roots₀
+    → Kept-past lines₀ nodes₀ roots₀ lines nodes roots
+kept-past F proper rows lines lines₀ nodes nodes₀ roots roots₀ S = record {
+  lines-past = ap (drop line-words) (S .in-lines) ∙ holding-drop line-words (line-table F rows) lines₀ (few-lines F rows proper (S .good) (S .few));
+  nodes-past = ap (drop map-words) (S .in-nodes) ∙ holding-drop map-words (node-table F rows) nodes₀ (few-words F rows proper (S .good) (S .few) (λ (e : Entry). node-word (e .node)));
+  roots-past = ap (drop map-words) (S .in-roots) ∙ holding-drop map-words (root-table F rows) roots₀ (few-words F rows proper (S .good) (S .few) (λ (e : Entry). e .root));
+}
+
 module _ (F : Formula) (g : Game) (clauses proof : List ℕ) (n : ℕ) (W : Whole F g clauses) (few : n ≤ lines-most) (lines₀ nodes₀ roots₀ : List ℕ) where
   abbrev recs : List (List ℕ)
   recs = split n (drop head-bytes proof)
-
-  -- nothing past the words of a table is written
-  kept-past : (rows : List Row) (lines nodes roots : List ℕ) → Standing F rows lines lines₀ nodes nodes₀ roots roots₀ → Kept-past lines₀ nodes₀ roots₀ lines nodes roots
-  kept-past rows lines nodes roots S = record {
-    lines-past = ap (drop line-words) (S .in-lines) ∙ holding-drop line-words (line-table F rows) lines₀ (few-lines F rows (W .proper) (S .good) (S .few));
-    nodes-past = ap (drop map-words) (S .in-nodes) ∙ holding-drop map-words (node-table F rows) nodes₀ (few-words F rows (W .proper) (S .good) (S .few) (λ (e : Entry). node-word (e .node)));
-    roots-past = ap (drop map-words) (S .in-roots) ∙ holding-drop map-words (root-table F rows) roots₀ (few-words F rows (W .proper) (S .good) (S .few) (λ (e : Entry). e .root));
-  }
 
   -- no line yet
   pub so-far-none : Blank lines₀ nodes₀ roots₀ → So-far F n recs lines₀ nodes₀ roots₀ lines₀ nodes₀ roots₀ 0
@@ -185,7 +186,7 @@ module _ (F : Formula) (g : Game) (clauses proof : List ℕ) (n : ℕ) (W : Whol
       so-far-stop r z p q v =
           let X = refused-of (next-line (house F) F (S .rows) bytes) m M z in
           rw (S .rest ∙ ap (lines-from (house F) F (S .rows)) left-from ∙ run-stop F (S .rows) bytes (drop (suc i) recs) (m .refusal) (m .variable) (X .0))
-          (p, omega (arith, q, S .count), v, X .1, kept-past (S .rows) lines nodes roots (S .standing))
+          (p, omega (arith, q, S .count), v, X .1, kept-past F (W .proper) (S .rows) lines lines₀ nodes nodes₀ roots roots₀ (S .standing))
 
       -- a line that is made
       pub so-far-more : (lines′ nodes′ roots′ : List ℕ) → m .refusal ≡ 0

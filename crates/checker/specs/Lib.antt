@@ -5,3 +5,4 @@ pub mod Resolutions
 pub mod Selects
 pub mod MapRows
 pub mod Runs
+pub mod Checks

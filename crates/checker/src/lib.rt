@@ -1,5 +1,6 @@
 // From a proof file's bytes to the checked rows in the lent tables.
 pub mod axioms;
+pub mod check;
 pub mod game;
 pub mod lines;
 pub mod maps_row;
