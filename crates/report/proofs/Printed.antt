@@ -5,10 +5,10 @@ use mathlib.Core.Bool.{Bool, true, false}
 use Prim.Native.Nat.{ℕ, zero, suc, _+_, _≤_, _<_}
 use native.Mathlib.Omega.{arith}
 use lib.Dec.{eqb, ltb}
-use lib.ListN.{length}
-use borrow.Author.Tests.{eq-eqb, ne-eqb}
+use lib.ListN.{length, length-take}
+use borrow.Author.Tests.{eq-eqb, ne-eqb, le-ltb}
 use Rattle.rules.specs.declared.Reply.{Reply}
-use Rattle.rules.specs.Limits.{text-most}
+use Rattle.rules.specs.Limits.{text-most, prefix-words, clause-words, line-words, map-words}
 use Rattle.rules.specs.Formula.{Formula}
 use Rattle.rules.specs.Lines.{Row}
 use Rattle.rules.specs.Checking.{Checked, checked}
@@ -17,8 +17,10 @@ use Rattle.rules.specs.Tables.{Leaves, prefix-after, nodes-after, roots-after}
 use Rattle.rules.specs.Services.{Lent, Answer, refused-early, check-answer, short-tables, checking}
 use Rattle.rules.specs.Listed.{check-listed}
 use Rattle.rules.specs.Report.{refused-line, accepted-text, report, printed, maps-text}
-use Rattle.report.specs.Written.{accepted-line}
+use Rattle.malintok.specs.Calls.{Check-call}
+use Rattle.report.specs.Written.{Appended, accepted-line}
 use Rattle.report.specs.Tabled.{reply-text, accepted-tables, Printable}
+use Rattle.report.specs.Calls.{Room, Print-call}
 use Rattle.report.proofs.Accepted.{accepted-maps, accepted-printable}
 
 -- a reply 0, and another
@@ -69,3 +71,38 @@ module _ (text proof lp ln lr prefix nodes roots : List ℕ) (prefix-long : 64 �
       let same : checking text proof T ≡ answer (ltb text-most (length text)) =
       ap (λ (b : Bool). elim b as (λ _. Answer) [ true ↦ refused-early 2 | false ↦ answer (ltb text-most (length text)) ]) s in
       subst (λ (a : Answer). Prints lp ln lr prefix nodes roots a (printed text proof)) (sym same) (by-length (ltb text-most (length text)))
+
+-- ---- a call of checking, and what is printed of it
+module _ (text proof : List ℕ) (T : Lent) (out : List ℕ) (room : Room T out) (r : Reply) (p c l n t : List ℕ) (call : Check-call text proof T r p c l n t) where
+  not-short : short-tables T ≡ false
+  not-short =
+      rw (
+        le-ltb (length (T .prefix)) prefix-words (room .prefix),
+        le-ltb (length (T .clauses)) clause-words (room .clauses),
+        le-ltb (length (T .lines)) line-words (room .lines),
+        le-ltb (length (T .nodes)) map-words (room .nodes),
+        le-ltb (length (T .roots)) map-words (room .roots),
+      )
+
+  prints : (checking text proof T .reply .number ≡ 0 → Printable p n t (checking text proof T .reply .lines)) × (reply-text (checking text proof T .reply) p n t ≡ printed text proof)
+  unfolding prefix-words map-words
+  prints =
+      printed-reply text proof (T .prefix) (T .nodes) (T .roots) p n t (omega (arith, room .prefix)) (omega (arith, room .nodes)) (omega (arith, room .roots)) T not-short
+      (call .prefix-left) (call .nodes-left) (call .roots-left)
+
+  -- where the reply is 0 the tables can be printed
+  pub call-printable : r .number ≡ 0 → Printable p n t (r .lines)
+  call-printable = subst (λ (q : Reply). q .number ≡ 0 → Printable p n t (q .lines)) (sym (call .reply)) (prints .0)
+
+  -- what is put for the reply is what 01 says
+  pub call-printed : (out′ : List ℕ) (k : ℕ) → Appended out out′ 0 k (reply-text r p n t) → Print-call text proof T out k out′ p c l n t
+  call-printed out′ k A = record {
+    said = A .written ∙ ap (λ (q : Reply). reply-text q p n t) (call .reply) ∙ prints .1;
+    past = A .rest;
+    within = omega (arith, A .next-is, ap length (A .written), length-take k out′);
+    prefix-left = call .prefix-left;
+    clauses-left = call .clauses-left;
+    lines-left = call .lines-left;
+    nodes-left = call .nodes-left;
+    roots-left = call .roots-left;
+  }

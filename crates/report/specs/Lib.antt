@@ -1,3 +1,4 @@
 pub mod Written
 pub mod Marks
 pub mod Tabled
+pub mod Calls
