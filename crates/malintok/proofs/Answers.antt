@@ -8,14 +8,15 @@ use lib.Dec.{ltb}
 use lib.ListN.{length}
 use borrow.Author.Tests.{lt-ltb, le-ltb}
 use Rattle.rules.specs.declared.Reply.{Reply}
-use Rattle.rules.specs.Limits.{text-most, prefix-words, clause-words, long-text, short-table}
+use Rattle.rules.specs.Limits.{text-most, prefix-words, clause-words, line-words, map-words, long-text, short-table}
 use Rattle.rules.specs.Reading.{read}
-use Rattle.rules.specs.Tables.{Leaves, prefix-after, clauses-after}
+use Rattle.rules.specs.Tables.{Leaves, prefix-after, clauses-after, lines-after, nodes-after, roots-after}
 use Rattle.rules.specs.Tables.Leaves.{untouched}
-use Rattle.rules.specs.Services.{Answer, refusal, refused-early, read-answer, short, reading}
+use Rattle.rules.specs.Checking.{checked}
+use Rattle.rules.specs.Services.{Lent, Answer, refusal, refused-early, read-answer, check-answer, short, short-tables, reading, checking}
 use Rattle.formula.specs.declared.reading.Outcome.{Outcome}
 use Rattle.formula.specs.Readings.{reply-of, outcome-of, outcome-reply, Left}
-use Rattle.malintok.specs.Calls.{Read-call}
+use Rattle.malintok.specs.Calls.{Read-call, Long, Answers, Check-call}
 
 -- an answer, from whether a table is short and whether the text is long
 abbrev pub staged : Bool → Bool → Answer → Answer
@@ -44,9 +45,6 @@ pub staged-on : (s l : Bool) (a : Answer) → s ≡ false → l ≡ false → st
 staged-on s l a e f = ap (λ (b : Bool). staged b l a) e ∙ ap (λ (b : Bool). staged false b a) f
 
 module _ (text prefix clauses : List ℕ) where
-  any-short : Bool
-  any-short = short prefix-words prefix || short clause-words clauses
-
   reading-staged : reading text prefix clauses ≡ staged (short prefix-words prefix || short clause-words clauses) (ltb text-most (length text)) (read-answer (read text))
   unfolding reading
   reading-staged = refl
@@ -88,3 +86,65 @@ module _ (text prefix clauses : List ℕ) where
         prefix-left = L .prefix-left ∙ sym (ap (λ (a : Answer). prefix-after (a .leaves) prefix) e);
         clauses-left = L .clauses-left ∙ sym (ap (λ (a : Answer). clauses-after (a .leaves) clauses) e);
       }
+
+-- ---- checking
+module _ (text proof : List ℕ) (T : Lent) where
+  checking-staged : checking text proof T ≡ staged (short-tables T) (ltb text-most (length text)) (check-answer (checked text proof))
+  unfolding checking
+  checking-staged = refl
+
+  left-all : (r : Reply) (k : ℕ) → checking text proof T ≡ refused-early k → r ≡ refusal k 0 0
+      → Check-call text proof T r (T .prefix) (T .clauses) (T .lines) (T .nodes) (T .roots)
+  left-all r k e f = record {
+    reply = f ∙ sym (ap (λ (a : Answer). a .reply) e);
+    prefix-left = sym (ap (λ (a : Answer). prefix-after (a .leaves) (T .prefix)) e);
+    clauses-left = sym (ap (λ (a : Answer). clauses-after (a .leaves) (T .clauses)) e);
+    lines-left = sym (ap (λ (a : Answer). lines-after (a .leaves) (T .lines)) e);
+    nodes-left = sym (ap (λ (a : Answer). nodes-after (a .leaves) (T .nodes)) e);
+    roots-left = sym (ap (λ (a : Answer). roots-after (a .leaves) (T .roots)) e);
+  }
+
+  -- a table is short
+  pub check-short : (r : Reply) → short-tables T ≡ true → r ≡ refusal short-table 0 0 → Check-call text proof T r (T .prefix) (T .clauses) (T .lines) (T .nodes) (T .roots)
+  check-short r h f = left-all r short-table (checking-staged ∙ staged-short (short-tables T) (ltb text-most (length text)) (check-answer (checked text proof)) h) f
+
+  pub short-prefix : length (T .prefix) < 64 → short-tables T ≡ true
+  unfolding prefix-words
+  short-prefix h = or-left (short prefix-words (T .prefix)) _ (lt-ltb (length (T .prefix)) 64 h)
+
+  pub short-clauses : length (T .clauses) < 512 → short-tables T ≡ true
+  unfolding clause-words
+  short-clauses h = or-right (short prefix-words (T .prefix)) _ (or-left (short clause-words (T .clauses)) _ (lt-ltb (length (T .clauses)) 512 h))
+
+  pub short-lines : length (T .lines) < 2048 → short-tables T ≡ true
+  unfolding line-words
+  short-lines h = or-right (short prefix-words (T .prefix)) _ (or-right (short clause-words (T .clauses)) _ (or-left (short line-words (T .lines)) _ (lt-ltb (length (T .lines)) 2048 h)))
+
+  pub short-nodes : length (T .nodes) < 16384 → short-tables T ≡ true
+  unfolding map-words
+  short-nodes h =
+      or-right (short prefix-words (T .prefix)) _
+      (or-right (short clause-words (T .clauses)) _ (or-right (short line-words (T .lines)) _ (or-left (short map-words (T .nodes)) _ (lt-ltb (length (T .nodes)) 16384 h))))
+
+  pub short-roots : length (T .roots) < 16384 → short-tables T ≡ true
+  unfolding map-words
+  short-roots h =
+      or-right (short prefix-words (T .prefix)) _
+      (or-right (short clause-words (T .clauses)) _ (or-right (short line-words (T .lines)) _ (or-right (short map-words (T .nodes)) _ (lt-ltb (length (T .roots)) 16384 h))))
+
+  none-short : Long T → short-tables T ≡ false
+  none-short L =
+      or-none (short prefix-words (T .prefix)) _ (le-ltb _ _ (L .prefix))
+      (or-none (short clause-words (T .clauses)) _ (le-ltb _ _ (L .clauses))
+      (or-none (short line-words (T .lines)) _ (le-ltb _ _ (L .lines)) (or-none (short map-words (T .nodes)) _ (le-ltb _ _ (L .nodes)) (le-ltb _ _ (L .roots)))))
+
+  -- the text is long
+  pub check-long : (r : Reply) → Long T → 65536 < length text → r ≡ refusal long-text 0 0 → Check-call text proof T r (T .prefix) (T .clauses) (T .lines) (T .nodes) (T .roots)
+  check-long r L h f =
+      left-all r long-text (checking-staged ∙ staged-long (short-tables T) (ltb text-most (length text)) (check-answer (checked text proof)) (none-short L) (lt-ltb text-most (length text) h)) f
+
+  -- the text is checked with the proof
+  pub check-whole : (r : Reply) (p c l n t : List ℕ) → Long T → length text ≤ 65536 → Answers (check-answer (checked text proof)) T r p c l n t → Check-call text proof T r p c l n t
+  check-whole r p c l n t L h A =
+      subst (λ (a : Answer). Answers a T r p c l n t)
+      (sym (checking-staged ∙ staged-on (short-tables T) (ltb text-most (length text)) (check-answer (checked text proof)) (none-short L) (le-ltb text-most (length text) h))) A

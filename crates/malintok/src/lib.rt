@@ -1,12 +1,15 @@
 // The services, for C: read a formula, check a formula text with a proof, play one map.
+mod checks;
 mod replies;
 
+use crate::checks::check_in;
 use crate::replies::read_reply;
-use crate::replies::refused;
+use crate::replies::rejected;
 use rules::Played;
 use rules::Reply;
 use sets::Set;
-ghost use Rattle.malintok.specs.Calls.{Read-call, Play-call};
+ghost use Rattle.rules.specs.Services.{Lent};
+ghost use Rattle.malintok.specs.Calls.{Read-call, Check-call, Play-call};
 
 // Reads a formula's text into the prefix and clause tables.
 #[no_mangle]
@@ -14,15 +17,49 @@ pub extern "C" fn malintok_read(text: &[u8], prefix: &mut [u32], clauses: &mut [
     ensures { λ r. ⌜ Read-call (now (text .entry)) (now (prefix .entry)) (now (clauses .entry)) r (now (prefix .exit)) (now (clauses .exit)) ⌝ }
 {
     if prefix.len() < 64 {
-        return refused(2);
+        return rejected(2, 0, 0);
     }
     if clauses.len() < 512 {
-        return refused(2);
+        return rejected(2, 0, 0);
     }
     if 65536 < text.len() {
-        return refused(1);
+        return rejected(1, 0, 0);
     }
     read_reply(formula::reading::read_in(text, prefix, clauses))
+}
+
+// Checks a formula's text with a proof, in the five lent tables.
+#[no_mangle]
+pub extern "C" fn malintok_check(
+    text: &[u8],
+    proof: &[u8],
+    prefix: &mut [u32],
+    clauses: &mut [u64],
+    lines: &mut [u64],
+    nodes: &mut [u32],
+    roots: &mut [u32],
+) -> Reply
+    ensures { λ r. ⌜ Check-call (now (text .entry)) (now (proof .entry)) (record { prefix = now (prefix .entry); clauses = now (clauses .entry); lines = now (lines .entry); nodes = now (nodes .entry); roots = now (roots .entry) }) r (now (prefix .exit)) (now (clauses .exit)) (now (lines .exit)) (now (nodes .exit)) (now (roots .exit)) ⌝ }
+{
+    if prefix.len() < 64 {
+        return rejected(2, 0, 0);
+    }
+    if clauses.len() < 512 {
+        return rejected(2, 0, 0);
+    }
+    if lines.len() < 2048 {
+        return rejected(2, 0, 0);
+    }
+    if nodes.len() < 16384 {
+        return rejected(2, 0, 0);
+    }
+    if roots.len() < 16384 {
+        return rejected(2, 0, 0);
+    }
+    if 65536 < text.len() {
+        return rejected(1, 0, 0);
+    }
+    check_in(text, proof, prefix, clauses, lines, nodes, roots)
 }
 
 // Plays the map at a root of a column of a node table, on the settings: its value, or 41 or 42.

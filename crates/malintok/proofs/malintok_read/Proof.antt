@@ -6,23 +6,23 @@ use borrow.Author.Needs.{needs}
 use Rattle.malintok.proofs.malintok_read.Statement.{statement}
 use Rattle.malintok.proofs.malintok_read.Tie as tie
 
-refused-requires : tie.Need-refused-requires
-refused-requires c κs = search needs
+rejected-requires : tie.Need-rejected-requires
+rejected-requires c κs = search needs
 
 returns : tie.Need-returns
-returns c = read-short-prefix (c .before .before .before .before .before .args .text .now) (c .before .before .before .before .before .args .prefix .now) (c .before .before .before .before .before .args .clauses .now) (c .refused .result) (omega arith) (c .refused .ensures)
+returns c = read-short-prefix (c .before .before .before .before .before .args .text .now) (c .before .before .before .before .before .args .prefix .now) (c .before .before .before .before .before .args .clauses .now) (c .rejected .result) (omega arith) (c .rejected .ensures)
 
-refused-requires-2 : tie.Need-refused-requires-2
-refused-requires-2 c κs = search needs
+rejected-requires-2 : tie.Need-rejected-requires-2
+rejected-requires-2 c κs = search needs
 
 returns-2 : tie.Need-returns-2
-returns-2 c = read-short-clauses (c .before .before .before .before .before .before .args .text .now) (c .before .before .before .before .before .before .args .prefix .now) (c .before .before .before .before .before .before .args .clauses .now) (c .refused2 .result) (omega arith) (c .refused2 .ensures)
+returns-2 c = read-short-clauses (c .before .before .before .before .before .before .args .text .now) (c .before .before .before .before .before .before .args .prefix .now) (c .before .before .before .before .before .before .args .clauses .now) (c .rejected2 .result) (omega arith) (c .rejected2 .ensures)
 
-refused-requires-3 : tie.Need-refused-requires-3
-refused-requires-3 c κs = search needs
+rejected-requires-3 : tie.Need-rejected-requires-3
+rejected-requires-3 c κs = search needs
 
 returns-3 : tie.Need-returns-3
-returns-3 c = read-long (c .before .before .before .before .before .before .before .args .text .now) (c .before .before .before .before .before .before .before .args .prefix .now) (c .before .before .before .before .before .before .before .args .clauses .now) (c .refused3 .result) (omega arith) (omega arith) (omega arith) (c .refused3 .ensures)
+returns-3 c = read-long (c .before .before .before .before .before .before .before .args .text .now) (c .before .before .before .before .before .before .before .args .prefix .now) (c .before .before .before .before .before .before .before .args .clauses .now) (c .rejected3 .result) (omega arith) (omega arith) (omega arith) (c .rejected3 .ensures)
 
 read-in-requires : tie.Need-read-in-requires
 unfolding prefix-words clause-words
@@ -55,11 +55,11 @@ pub malintok-read-spec : {M : Type 1} → statement M
 malintok-read-spec =
     tie.close
     (tie.spec
-    refused-requires
+    rejected-requires
     returns
-    refused-requires-2
+    rejected-requires-2
     returns-2
-    refused-requires-3
+    rejected-requires-3
     returns-3
     read-in-requires
     read-reply-requires
