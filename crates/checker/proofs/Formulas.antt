@@ -34,6 +34,9 @@ clause-worded F proper i h =
     let m = numbered-in (F .matrix) i no-literal h in
     record { plain = proper .plain-words (getD (F .matrix) i no-literal) m; negated = proper .negated-words (getD (F .matrix) i no-literal) m }
 
+pub clause-wide : (F : Formula) → Proper F → Wide (2 * set-words) clause-row no-literal (F .matrix)
+clause-wide F proper i h = length-clause-row _ (clause-worded F proper i h)
+
 -- the clauses' words within the table
 pub clause-room : (c : ℕ) → c ≤ clauses-most → 2 * set-words * c ≤ clause-words
 unfolding set-words clause-words
@@ -48,7 +51,7 @@ module _ (F : Formula) (g : Game) (clauses : List ℕ) (W : Whole F g clauses) w
   pub clause-read : (c : ℕ) → 1 ≤ c → c ≤ g .count → clause-part clauses c ≡ clause-number F c
   clause-read c o h =
       let l : c - 1 < length (F .matrix) = omega (arith, W .game .count) in
-      ap clause-in (table-part (2 * set-words) clause-words clause-row no-literal (F .matrix) clauses clauses (λ i m. length-clause-row _ (clause-worded F (W .proper) i m)) (W .words) (c - 1) l)
+      ap clause-in (table-part (2 * set-words) clause-words clause-row no-literal (F .matrix) clauses clauses (clause-wide F (W .proper)) (W .words) (c - 1) l)
       ∙ clause-in-row (clause-number F c) (clause-worded F (W .proper) (c - 1) l)
 
   pub few-universals : g .universals ≤ universals-most

@@ -10,3 +10,4 @@ pub mod Resolves
 pub mod Nexts
 pub mod Runs
 pub mod Checkings
+pub mod Answering

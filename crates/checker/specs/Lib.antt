@@ -6,3 +6,4 @@ pub mod Selects
 pub mod MapRows
 pub mod Runs
 pub mod Checks
+pub mod Answers

@@ -1,4 +1,5 @@
 // From a proof file's bytes to the checked rows in the lent tables.
+pub mod answers;
 pub mod axioms;
 pub mod check;
 pub mod game;
