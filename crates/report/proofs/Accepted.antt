@@ -1,7 +1,6 @@
 -- What the tables of an accepted proof hold: the maps that they name are the last line's.
 use mathlib.Core.Path.{_≡_, refl, sym, _∙_, ap, subst}
 use mathlib.Core.List.{List, [], _∷_, _++_, map}
-use mathlib.Core.Bool.{Bool, true, false}
 use Prim.Native.Nat.{ℕ, zero, suc, _+_, _-_, _*_, _≤_, _<_}
 use native.Mathlib.Numerals.{add-one}
 use native.Mathlib.Omega.{arith}
@@ -11,19 +10,19 @@ use Rattle.rules.specs.Limits.{variables-most, universal-mark, universals-most,
 use Rattle.rules.specs.Formula.{Quant, Bound, Formula, universals}
 use Rattle.rules.specs.Formula.Quant.{exists, forall}
 use Rattle.rules.specs.Proper.{Proper, var-at}
-use Rattle.rules.specs.FormulaLaws.{universals-exists, universals-forall, proper-length}
+use Rattle.rules.specs.FormulaLaws.{proper-length}
 use Rattle.rules.specs.Lines.{Row, house, no-row, column, root-at, each}
 use Rattle.rules.specs.Tables.{bound-word, node-row, root-row, rows-of, padded, holding}
 use Rattle.rules.specs.TableLaws.{rows-length, holding-length}
 use Rattle.rules.specs.TablePlays.{nodes-wide, roots-wide, table-column-rows, table-root-rows}
 use Rattle.rules.specs.Services.{table-column}
 use Rattle.rules.specs.Good.{Good}
-use Rattle.rules.specs.Checking.{Checked, checked}
+use Rattle.rules.specs.Checking.{checked}
 use Rattle.rules.specs.Checking.Checked.{accepted}
 use Rattle.rules.specs.Countermodel.{accepted-good, accepted-lines}
 use Rattle.rules.specs.Report.{joined, map-lines, maps-text}
 use Rattle.rules.specs.ReportLaws.{map-lines-same}
-use Rattle.report.specs.Tabled.{last-root, word-map, word-maps, In-table, Ready, Printable}
+use Rattle.report.specs.Tabled.{last-root, word-maps, In-table, Ready, Printable}
 use Rattle.report.proofs.Maps.{maps-universal, maps-other, ready-universal, ready-other}
 
 -- ---- a prefix in words

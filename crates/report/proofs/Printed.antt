@@ -1,22 +1,20 @@
 -- What is printed from checking's reply and the tables that it leaves is what 01 says for the two files.
 use mathlib.Core.Path.{_≡_, refl, sym, _∙_, ap, subst}
-use mathlib.Core.List.{List, [], _∷_, _++_, map}
+use mathlib.Core.List.{List, [], _++_}
 use mathlib.Core.Bool.{Bool, true, false}
-use Prim.Native.Nat.{ℕ, zero, suc, _+_, _≤_, _<_}
+use Prim.Native.Nat.{ℕ, _+_, _≤_}
 use native.Mathlib.Omega.{arith}
-use lib.Dec.{eqb, ltb}
+use lib.Dec.{ltb}
 use lib.ListN.{length, length-take}
 use borrow.Author.Tests.{eq-eqb, ne-eqb, le-ltb}
 use Rattle.rules.specs.declared.Reply.{Reply}
 use Rattle.rules.specs.Limits.{text-most, prefix-words, clause-words, line-words, map-words}
-use Rattle.rules.specs.Formula.{Formula}
-use Rattle.rules.specs.Lines.{Row}
 use Rattle.rules.specs.Checking.{Checked, checked}
 use Rattle.rules.specs.Checking.Checked.{rejected, accepted}
-use Rattle.rules.specs.Tables.{Leaves, prefix-after, nodes-after, roots-after}
+use Rattle.rules.specs.Tables.{prefix-after, nodes-after, roots-after}
 use Rattle.rules.specs.Services.{Lent, Answer, refused-early, check-answer, short-tables, checking}
 use Rattle.rules.specs.Listed.{check-listed}
-use Rattle.rules.specs.Report.{refused-line, accepted-text, report, printed, maps-text}
+use Rattle.rules.specs.Report.{refused-line, accepted-text, report, printed}
 use Rattle.malintok.specs.Calls.{Check-call}
 use Rattle.report.specs.Written.{Appended, accepted-line}
 use Rattle.report.specs.Tabled.{reply-text, accepted-tables, Printable}

@@ -5,7 +5,7 @@ use Prim.Native.Nat.{ℕ, _≤_}
 use lib.ListN.{length, take, drop}
 use Rattle.rules.specs.Limits.{prefix-words, clause-words, line-words, map-words}
 use Rattle.rules.specs.Tables.{prefix-after, clauses-after, lines-after, nodes-after, roots-after}
-use Rattle.rules.specs.Services.{Lent, Answer, checking}
+use Rattle.rules.specs.Services.{Lent, checking}
 use Rattle.rules.specs.Report.{printed}
 
 -- bytes enough for every report

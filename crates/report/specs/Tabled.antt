@@ -1,11 +1,11 @@
 -- The last line's maps, as the prefix, node and root tables say them.
-use mathlib.Core.Bool.{Bool, true, false}
+use mathlib.Core.Bool.{true, false}
 use mathlib.Core.List.{List, [], _∷_, _++_}
-use Prim.Native.Nat.{ℕ, zero, suc, _+_, _-_, _*_, _≤_, _<_}
+use Prim.Native.Nat.{ℕ, suc, _+_, _-_, _*_, _≤_, _<_}
 use lib.Dec.{eqb, ltb}
 use lib.ListN.{length, getD, take}
 use Rattle.rules.specs.declared.Reply.{Reply}
-use Rattle.rules.specs.Limits.{universal-mark, universals-most, lines-most, prefix-words, map-words}
+use Rattle.rules.specs.Limits.{universal-mark, universals-most, lines-most}
 use Rattle.rules.specs.Services.{table-column}
 use Rattle.rules.specs.Report.{map-lines, refused-line}
 use Rattle.report.specs.Written.{accepted-line}

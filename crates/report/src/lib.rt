@@ -8,7 +8,6 @@ mod text;
 
 ghost use mathlib.Core.Path.{_≡_};
 ghost use lib.ListN.{length};
-ghost use Rattle.rules.specs.Services.{Lent};
 ghost use Rattle.report.specs.Calls.{report-most, Room, Print-call};
 
 // Checks the text with the proof over the lent tables, and puts what 01 prints for them at the start of out: how many bytes.

@@ -1,9 +1,7 @@
 // The lines that are no node's: the verdict, and a map's head.
 use crate::text::put;
 use crate::text::put_decimal;
-ghost use mathlib.Core.Path.{_≡_};
-ghost use mathlib.Core.List.{_++_};
-ghost use Prim.Native.Nat.{ℕ, _+_, _≤_, _<_};
+ghost use Prim.Native.Nat.{_+_, _≤_};
 ghost use lib.ListN.{length};
 ghost use Rattle.rules.specs.Report.{refused-line};
 ghost use Rattle.report.specs.Written.{Appended, accepted-line, map-head};

@@ -3,7 +3,7 @@ use crate::lines::put_map_head;
 use crate::nodes::put_node_line;
 use rules::Node;
 ghost use mathlib.Core.Path.{_≡_};
-ghost use Prim.Native.Nat.{ℕ, _+_, _*_, _≤_, _<_};
+ghost use Prim.Native.Nat.{_+_, _*_, _≤_, _<_};
 ghost use lib.ListN.{length};
 ghost use Rattle.rules.specs.MapLaws.{In-range};
 ghost use Rattle.rules.specs.Services.{table-column};

@@ -3,10 +3,9 @@ use crate::text::put;
 use crate::text::put_decimal;
 use rules::Node;
 use rules::Value;
-ghost use mathlib.Core.Path.{_≡_};
-ghost use Prim.Native.Nat.{ℕ, _+_, _≤_, _<_};
+ghost use Prim.Native.Nat.{_+_, _≤_};
 ghost use lib.ListN.{length};
-ghost use Rattle.rules.specs.Report.{value-name, node-text, decimal};
+ghost use Rattle.rules.specs.Report.{value-name, node-text};
 ghost use Rattle.report.specs.Written.{Appended, numbered};
 
 // A leaf's value, after a space.

@@ -4,7 +4,7 @@ use crate::lines::put_refused;
 use crate::table::put_maps;
 use rules::Reply;
 ghost use mathlib.Core.Path.{_≡_};
-ghost use Prim.Native.Nat.{ℕ, _+_, _≤_, _<_};
+ghost use Prim.Native.Nat.{_≤_};
 ghost use lib.ListN.{length};
 ghost use Rattle.report.specs.Written.{Appended};
 ghost use Rattle.report.specs.Tabled.{accepted-tables, reply-text, Printable};

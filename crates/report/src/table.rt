@@ -1,7 +1,6 @@
 // The last line's maps, by universal number, from the tables.
 use crate::map::put_map;
-ghost use mathlib.Core.Path.{_≡_};
-ghost use Prim.Native.Nat.{ℕ, _+_, _≤_, _<_};
+ghost use Prim.Native.Nat.{_+_, _≤_, _<_};
 ghost use lib.ListN.{length, take};
 ghost use Rattle.report.specs.Written.{Appended};
 ghost use Rattle.report.specs.Tabled.{word-maps, Printable};

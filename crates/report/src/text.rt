@@ -1,7 +1,7 @@
 // Bytes and numbers put behind what a buffer holds already.
 ghost use mathlib.Core.Path.{_≡_};
-ghost use Prim.Native.Nat.{ℕ, _+_, _-_, _%_, _≤_, _<_};
-ghost use lib.ListN.{length, take, drop};
+ghost use Prim.Native.Nat.{_+_, _-_, _%_, _≤_, _<_};
+ghost use lib.ListN.{length};
 ghost use Rattle.rules.specs.Report.{decimal};
 ghost use Rattle.report.specs.Written.{Appended};
 

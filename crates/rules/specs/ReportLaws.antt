@@ -12,7 +12,7 @@ use Rattle.rules.specs.declared.Node.{Node}
 use Rattle.rules.specs.declared.Node.the-variants.{None, Leaf, Branch}
 use Rattle.rules.specs.Maps.{Column, Reached}
 use Rattle.rules.specs.Maps.Reached.{root, low, high}
-use Rattle.rules.specs.MapLaws.{Falling-from, Positive-from, Sound}
+use Rattle.rules.specs.MapLaws.{Sound}
 use Rattle.rules.specs.Report.{mark-ends, reached-from, nodes-falling, decimal, node-text, line, node-line, joined, map-lines}
 use Rattle.rules.specs.Bytes.{text}
 

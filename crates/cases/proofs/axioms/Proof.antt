@@ -4,7 +4,6 @@ use Prim.Native.Nat.{_≤_, _-_, _+_, _*_}
 use native.Mathlib.Omega.{arith}
 use lib.ListN.{length, length-set}
 use lib.Seq.{length-take-le}
-use borrow.Author.Needs.{needs}
 use Rattle.cases.proofs.axioms.Statement.{statement}
 use Rattle.cases.proofs.axioms.Tie as tie
 

@@ -1,5 +1,4 @@
 -- `report::map::put_nodes` meets its contract. The loop's invariant: what is put, with the lines of what is marked from i down, is the map's nodes.
-use mathlib.Core.Path.{sym, _∙_, ap}
 use Prim.Native.Nat.{_+_}
 use native.Mathlib.Omega.{arith}
 use borrow.Author.Needs.{needs}

@@ -1,6 +1,4 @@
 -- `report::nodes::put_node_line` meets its contract: the number, the node's text and a line feed.
-use mathlib.Core.List.{append-assoc}
-use mathlib.Core.Path.{sym}
 use native.Mathlib.Omega.{arith}
 use borrow.Author.Needs.{needs}
 use Rattle.report.proofs.Laws.{then}

@@ -1,7 +1,6 @@
 -- `report::table::put_maps` meets its contract. The loop's invariant: what is put, with the maps that the words from k on name, is all the maps.
-use Prim.Native.Nat.{ℕ, _-_}
+use Prim.Native.Nat.{_-_}
 use native.Mathlib.Omega.{arith}
-use borrow.Author.Needs.{needs}
 use Rattle.report.specs.Tabled.{In-table}
 use Rattle.report.proofs.Maps.{Mapped, mapped-begin, mapped-ready, mapped-put, mapped-over, mapped-end}
 use Rattle.report.proofs.table.put_maps.Statement.{statement}

@@ -1,10 +1,9 @@
 -- `report::text::put` meets its contract. The loop's invariant: out is what it was with the bytes before i pasted in at its place.
-use mathlib.Core.Path.{_≡_, refl, sym, _∙_, ap}
-use Prim.Native.Nat.{_≤_, _+_, _-_}
+use mathlib.Core.Path.{_≡_, refl}
+use Prim.Native.Nat.{_≤_, _-_}
 use native.Mathlib.Omega.{arith}
-use borrow.Author.Needs.{needs}
-use lib.ListN.{length, getD, set, take, drop, length-set}
-use lib.Seq.{paste, paste-zero, paste-suc, length-paste, take-paste, drop-paste, take-length}
+use lib.ListN.{length, length-set}
+use lib.Seq.{paste, paste-zero}
 use Rattle.report.proofs.Laws.{turn, all-pasted}
 use Rattle.report.proofs.text.put.Statement.{statement}
 use Rattle.report.proofs.text.put.Tie as tie

@@ -1,10 +1,10 @@
 -- `report::text::put_decimal` meets its contract. The loop's invariant: the digits from `from` on stand in the local array.
-use mathlib.Core.Path.{_≡_, refl, sym, _∙_, ap, subst}
-use Prim.Native.Nat.{ℕ, _≤_, _<_, _+_, _-_}
+use mathlib.Core.Path.{_≡_, refl, _∙_}
+use Prim.Native.Nat.{ℕ, _<_, _-_}
 use native.Mathlib.Omega.{arith}
 use borrow.Author.Needs.{needs}
 use mathlib.Core.List.{List}
-use lib.ListN.{length, take, drop, replicate, length-take, length-drop}
+use lib.ListN.{take, drop, replicate, length-take, length-drop}
 use lib.Seq.{take-all}
 use Rattle.report.proofs.Laws.{Digits, digits-begin, room-left, digits-more, digits-end, length-decimal, retext}
 use Rattle.report.proofs.text.put_decimal.Statement.{statement}
