@@ -1,28 +1,26 @@
 -- The stages of checking a proof over a formula that the tables hold: the head, the lines, the last clause.
 use mathlib.Core.Path.{_≡_, refl, sym, ap, ap₂, subst, _∙_}
-use mathlib.Core.Bool.{Bool, true, false, not, _||_, false≢true}
+use mathlib.Core.Bool.{Bool, true, false, not}
 use mathlib.Core.List.{List, [], _∷_}
-use Prim.Native.Nat.{ℕ, zero, suc, _+_, _-_, _*_, _≤_, _<_}
+use Prim.Native.Nat.{ℕ, _+_, _-_, _*_, _≤_}
 use native.Mathlib.Omega.{arith}
-use lib.Dec.{eqb, ltb}
-use lib.ListN.{length, getD, take, drop}
+use lib.Dec.{ltb}
+use lib.ListN.{length, drop}
 use borrow.Author.Tests.{not-false, eqb-true, ltb-false}
-use Rattle.rules.specs.Limits.{set-words, line-words, lines-most, head-bytes, record-bytes, bad-mark, bad-length, bad-line-count}
+use Rattle.rules.specs.Limits.{lines-most, head-bytes, bad-mark, bad-length, bad-line-count}
 use Rattle.rules.specs.Faults.{Fault, fault, Found, first-of}
 use Rattle.rules.specs.Faults.Found.{passes, fails}
 use Rattle.rules.specs.Formula.{Formula, universals, empty-clause}
-use Rattle.rules.specs.Text.{spelled}
 use Rattle.rules.specs.Proper.{Proper}
-use Rattle.rules.specs.File.{Form, merge-proof, pair-at, announced, head-fault, split, records}
+use Rattle.rules.specs.File.{merge-proof, announced, head-fault, split, records}
 use Rattle.rules.specs.FileLaws.{length-split}
 use Rattle.rules.specs.Lines.{Row, clause-at, house}
-use Rattle.rules.specs.GoodLaws.{passes-cons, neither, all-derived}
-use Rattle.rules.specs.Checking.{Passed, Checked, all-lines, last-empty, refutation, when-passed, proof-lines, proof-checked}
+use Rattle.rules.specs.GoodLaws.{neither, all-derived}
+use Rattle.rules.specs.Checking.{Passed, all-lines, last-empty, refutation, when-passed, proof-checked}
 use Rattle.rules.specs.Checking.Passed.{passed, stopped}
 use Rattle.rules.specs.Checking.Checked.{rejected, accepted}
 use Rattle.sets.specs.declared.Clause.{Clause}
 use Rattle.sets.specs.Values.{clause-of}
-use Rattle.proof.specs.declared.Head.{Head}
 use Rattle.proof.specs.declared.Head.the-variants as H
 use Rattle.proof.specs.Head.{headed, head-of}
 use Rattle.checker.specs.declared.game.Game.{Game}
@@ -31,7 +29,7 @@ use Rattle.checker.specs.declared.check.Findings.{Findings}
 use Rattle.checker.specs.Game.{Prefixed, Game-of}
 use Rattle.checker.specs.Rows.{clause-part}
 use Rattle.checker.specs.Makes.{Whole, Standing}
-use Rattle.checker.specs.Runs.{Kept-past, Ran}
+use Rattle.checker.specs.Runs.{Ran}
 use Rattle.checker.specs.Checks.{In-tables, Filled-tables, Headed, lines-checked, Checks}
 use Rattle.checker.proofs.Resolves.{standing-read}
 use Rattle.checker.proofs.Runs.{kept-past}

@@ -1,29 +1,23 @@
 -- The formula in its tables: clause c read back, the universals, and an axiom's row from them.
-use mathlib.Core.Path.{_≡_, refl, sym, ap, ap₂, subst, _∙_}
-use mathlib.Core.Bool.{Bool, true, false, _||_, or-true}
-use mathlib.Core.List.{List, [], _∷_}
-use Prim.Native.Nat.{ℕ, zero, suc, _+_, _-_, _*_, _≤_, _<_}
+use mathlib.Core.Path.{_≡_, refl, sym, ap, _∙_}
+use mathlib.Core.List.{List}
+use Prim.Native.Nat.{ℕ, _-_, _*_, _≤_, _<_}
 use native.Mathlib.Omega.{arith}
-use lib.ListN.{length, getD, take, drop, length-append}
+use lib.ListN.{length, getD, take}
 use lib.Seq.{take-at}
 use borrow.Author.Tests.{lt-ltb, le-ltb}
 use Rattle.rules.specs.declared.Line.the-variants as L
-use Rattle.rules.specs.Limits.{set-words, clause-words, clauses-most, universals-most, no-clause}
-use Rattle.rules.specs.Faults.{Fault, fault, Found, first-of}
-use Rattle.rules.specs.FileLaws.{first-given}
-use Rattle.rules.specs.Formula.{Clause, Formula, universals, existentials, no-literal, kept-by}
+use Rattle.rules.specs.Limits.{set-words, clause-words, clauses-most, universals-most}
+use Rattle.rules.specs.Faults.{first-of}
+use Rattle.rules.specs.Formula.{Formula, universals, existentials, no-literal, kept-by}
 use Rattle.rules.specs.FormulaLaws.{Worded}
 use Rattle.rules.specs.Proper.{Proper}
 use Rattle.rules.specs.GoodLaws.{numbered-in, line-follows}
-use Rattle.rules.specs.Lines.{Row, Rules, house, Entry, clause-number, leaf-entry, each, axiom-row, axiom-faults, unless-found, line-faults, line-row, line-made}
-use Rattle.rules.specs.Lines.{Made as Outcome}
-use Rattle.rules.specs.Lines.Made.{made, refused}
-use Rattle.rules.specs.Tables.{padded, holding, rows-of, clause-row}
+use Rattle.rules.specs.Lines.{Row, house, clause-number, leaf-entry, each, axiom-row, line-faults, line-row, line-made}
+use Rattle.rules.specs.Tables.{padded, clause-row}
 use Rattle.sets.specs.Values.{set-of, clause-of, clause-in, clause-in-row, length-clause-row}
 use Rattle.checker.specs.declared.game.Game.{Game}
 use Rattle.checker.specs.declared.axioms.Made.{Made}
-use Rattle.checker.specs.declared.rows.MapRow.{MapRow}
-use Rattle.checker.specs.Game.{Game-of}
 use Rattle.checker.specs.Rows.{clause-part, players, Row-of}
 use Rattle.checker.specs.Makes.{Makes, Whole}
 use Rattle.checker.proofs.Tables.{Wide, table-part}

@@ -7,8 +7,8 @@ use Prim.Native.Nat.{ℕ, zero, suc, _+_, _-_, _*_, _≤_, _<_}
 use native.Mathlib.Omega.{arith}
 use native.Mathlib.Decide.{decLt}
 use native.Mathlib.Numerals.{add-one}
-use lib.Dec.{eqb, leb}
-use lib.ListN.{length, getD, take, drop, set, replicate, length-append, length-drop, length-map, length-replicate, length-set, List·getD-map, drop-of-length-le, List·getD-append, take-append-drop}
+use lib.Dec.{eqb}
+use lib.ListN.{length, getD, take, drop, set, replicate, length-append, length-drop, length-map, length-set, List·getD-map, drop-of-length-le, List·getD-append, take-append-drop}
 use lib.Seq.{drop-cons, take-suc, take-all, getD-set-same, getD-set-other, getD-append-seam, take-at}
 use borrow.Author.Tests.{eq-eqb, ne-eqb, le-leb, lt-leb}
 use Rattle.rules.specs.Limits.{prefix-words, universal-mark, variables-most, universals-most, word-bits, set-words}
@@ -18,12 +18,12 @@ use Rattle.rules.specs.SetLaws.{has-with, has-none}
 use Rattle.rules.specs.Formula.{Quant, Bound, Formula, bound, universals, existentials, left-of}
 use Rattle.rules.specs.Formula.Quant.{exists, forall}
 use Rattle.rules.specs.FormulaLaws.{eqb-comm, place-bound, bound-snoc, universals-append, universals-exists, universals-forall, existentials-exists, existentials-forall, distinct-tail}
-use Rattle.rules.specs.Proper.{nowhere, var-at, kind-at, Distinct, Proper}
-use Rattle.rules.specs.Tables.{padded, holding, bound-word, prefix-table}
+use Rattle.rules.specs.Proper.{nowhere, var-at, Distinct}
+use Rattle.rules.specs.Tables.{padded, holding, bound-word}
 use Rattle.sets.specs.declared.Set.{Set}
 use Rattle.sets.specs.Values.{set-of}
 use Rattle.checker.specs.declared.game.Game.{Game}
-use Rattle.checker.specs.Game.{Prefixed, Readable, Narrow, with-word, left-set, Game-of, Bound-first, Bound-more, More-exists, More-forall}
+use Rattle.checker.specs.Game.{Prefixed, Narrow, with-word, left-set, Game-of, Bound-first, Bound-more, More-exists, More-forall}
 use Rattle.checker.proofs.Tables.{holding-at, holding-past, padded-more}
 
 -- ---- left of a place of the prefix are the variables before it

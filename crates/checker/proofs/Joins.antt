@@ -1,22 +1,20 @@
 -- The tests 24 to 29 on the tables: each return of joining two parents.
-use mathlib.Core.Path.{_≡_, refl, sym, ap, _∙_}
-use mathlib.Core.Bool.{Bool, true, false, not, _&&_, _||_, false≢true, or-true}
-use mathlib.Core.List.{List, [], _∷_}
-use Prim.Native.Nat.{ℕ, _+_, _-_, _*_, _%_, _^_, _≤_, _<_}
+use mathlib.Core.Path.{_≡_, refl, ap, _∙_}
+use mathlib.Core.Bool.{true, false}
+use mathlib.Core.List.{List}
+use Prim.Native.Nat.{ℕ, _-_, _*_, _%_, _^_, _≤_, _<_}
 use native.Mathlib.Omega.{arith}
 use native.Mathlib.Nat.{mod-eq-of-lt}
-use lib.Dec.{leb}
-use lib.Pow.{pow-lt, pow-mono}
+use lib.Pow.{pow-lt}
 use lib.ListN.{length}
 use borrow.Author.Tests.{le-leb, lt-leb}
 use Rattle.rules.specs.declared.Resolution.{Resolution}
-use Rattle.rules.specs.Limits.{set-words, line-words, lines-most, variables-most, universals-most, word-bits}
+use Rattle.rules.specs.Limits.{set-words, line-words, lines-most, variables-most, universals-most}
 use Rattle.rules.specs.Sets.{has}
 use Rattle.rules.specs.Sets.{Set as Variables}
 use Rattle.rules.specs.SetLaws.{has-range}
-use Rattle.rules.specs.Faults.{Fault, fault, Found, first-of}
-use Rattle.rules.specs.Faults.Found.{passes, fails}
-use Rattle.rules.specs.Formula.{resolvent, two-faced}
+use Rattle.rules.specs.Faults.{first-of}
+use Rattle.rules.specs.Formula.{two-faced}
 use Rattle.rules.specs.Lines.{earlier}
 use Rattle.rules.specs.GoodLaws.{earlier-iff}
 use Rattle.sets.specs.declared.Set.{Set}

@@ -10,4 +10,3 @@ pub mod Resolves
 pub mod Nexts
 pub mod Runs
 pub mod Checkings
-pub mod Answering

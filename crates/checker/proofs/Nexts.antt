@@ -1,17 +1,14 @@
 -- The next line by what its record decodes to.
-use mathlib.Core.Path.{_≡_, refl, sym, ap, subst, _∙_}
+use mathlib.Core.Path.{_≡_}
 use mathlib.Core.List.{List}
-use Prim.Native.Nat.{ℕ, suc, _≤_}
+use Prim.Native.Nat.{ℕ, suc}
 use lib.ListN.{length}
 use Rattle.rules.specs.declared.Line.{Line}
-use Rattle.rules.specs.declared.Decoded.{Decoded}
 use Rattle.rules.specs.declared.Decoded.the-variants as D
 use Rattle.rules.specs.Formula.{Formula}
 use Rattle.rules.specs.File.{decoded}
 use Rattle.rules.specs.FileLaws.{refused-number}
-use Rattle.rules.specs.Lines.{Row, house, line-made, decoded-made, next-line}
-use Rattle.rules.specs.Lines.{Made as Outcome}
-use Rattle.rules.specs.Lines.Made.{made, refused}
+use Rattle.rules.specs.Lines.{Row, house, line-made, next-line}
 use Rattle.checker.specs.declared.axioms.Made.{Made}
 use Rattle.checker.specs.Makes.{Makes}
 

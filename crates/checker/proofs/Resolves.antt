@@ -1,34 +1,31 @@
 -- A resolution's line from what the tables give: the tests on the tables are the rules' on the rows.
-use mathlib.Core.Path.{_≡_, refl, sym, ap, ap₂, subst, _∙_}
-use mathlib.Core.Bool.{Bool, true, false, not, _&&_, _||_, true≢false, false≢true}
+use mathlib.Core.Path.{_≡_, refl, sym, ap, ap₂, _∙_}
+use mathlib.Core.Bool.{Bool, true, false, not, _||_}
 use mathlib.Core.List.{List, [], _∷_, _++_}
-use Prim.Native.Nat.{ℕ, zero, suc, _+_, _-_, _*_, _^_, _≤_, _<_}
+use Prim.Native.Nat.{ℕ, zero, suc, _+_, _-_, _*_, _≤_}
 use native.Mathlib.Omega.{arith}
-use lib.Dec.{leb}
-use lib.ListN.{length, getD, take, drop}
+use lib.ListN.{length}
 use borrow.Author.Tests.{not-false}
 use Rattle.rules.specs.declared.Resolution.{Resolution}
-use Rattle.rules.specs.declared.Line.{Line}
 use Rattle.rules.specs.declared.Line.the-variants as L
-use Rattle.rules.specs.Limits.{set-words, line-words, lines-most}
+use Rattle.rules.specs.Limits.{set-words, line-words}
 use Rattle.rules.specs.Sets.{has}
-use Rattle.rules.specs.Faults.{Fault, fault, Found, first-of}
+use Rattle.rules.specs.Faults.{Fault, Found, first-of}
 use Rattle.rules.specs.Faults.Found.{passes, fails}
-use Rattle.rules.specs.Formula.{Quant, Formula, bound-by, universals, existentials, resolvent, two-faced}
+use Rattle.rules.specs.Formula.{Formula, bound-by, universals, existentials, resolvent}
 use Rattle.rules.specs.Formula.{Clause as Literals}
 use Rattle.rules.specs.Formula.Quant.{exists}
 use Rattle.rules.specs.FormulaLaws.{has-existentials, proper-fits}
 use Rattle.rules.specs.GoodLaws.{passes-cons, neither, earlier-iff, good-words}
 use Rattle.rules.specs.Lines.{Entry, Row, no-row, house, earlier, row-at, clause-at, result, in-set, parent-faults, set-faults, result-faults, map-faults, map-entry, each, resolution-row, unless-found, line-faults, line-row, line-made}
-use Rattle.rules.specs.Lines.{Made as Outcome}
-use Rattle.rules.specs.Lines.Made.{made, refused}
-use Rattle.rules.specs.Tables.{holding, rows-of, clause-row}
+use Rattle.rules.specs.Lines.Made.{refused}
+use Rattle.rules.specs.Tables.{clause-row}
 use Rattle.sets.specs.Values.{set-of, clause-of, clause-in, clause-in-row, length-clause-row}
 use Rattle.checker.specs.declared.game.Game.{Game}
 use Rattle.checker.specs.declared.axioms.Made.{Made}
 use Rattle.checker.specs.declared.resolutions.Joined.{Joined}
 use Rattle.checker.specs.declared.maps_row.MapsMade.{MapsMade}
-use Rattle.checker.specs.Rows.{clause-part, Row-of}
+use Rattle.checker.specs.Rows.{clause-part}
 use Rattle.checker.specs.Makes.{Makes, Standing, Ready}
 use Rattle.checker.specs.Resolutions.{table-result, clause-tests, Joins}
 use Rattle.checker.specs.MapRows.{Resolving, Maps-made}

@@ -1,11 +1,11 @@
 -- One line after another: the row written, the rows that then stand, and the records that are left.
-use mathlib.Core.Path.{_≡_, refl, sym, ap, ap₂, subst, _∙_}
+use mathlib.Core.Path.{_≡_, refl, sym, ap, ap₂, _∙_}
 use mathlib.Core.List.{List, [], _∷_, _++_, map}
-use Prim.Native.Nat.{ℕ, zero, suc, _+_, _-_, _*_, _≤_, _<_}
+use Prim.Native.Nat.{ℕ, suc, _+_, _-_, _*_, _≤_, _<_}
 use native.Mathlib.Omega.{arith}
 use native.Mathlib.Nat.{mul-comm}
 use native.Mathlib.Numerals.{add-one}
-use lib.ListN.{length, getD, take, drop, length-append, length-map, length-drop, drop-of-length-le}
+use lib.ListN.{length, getD, take, drop, length-map, length-drop, drop-of-length-le}
 use lib.Seq.{drop-cons, drop-drop, length-take-le}
 use borrow.Rule.Slice.PartMut.{putMid}
 use Rattle.rules.specs.Limits.{set-words, universals-most, lines-most, line-words, map-words, head-bytes, record-bytes}
@@ -16,20 +16,21 @@ use Rattle.rules.specs.FileLaws.{length-split, split-at}
 use Rattle.rules.specs.Good.{Good}
 use Rattle.rules.specs.GoodLaws.{row-new, good-next, good-words, rows-grown}
 use Rattle.rules.specs.Maps.{node-word}
-use Rattle.rules.specs.Lines.{Entry, Row, no-row, row-at, clause-at, house, next-line}
+use Rattle.rules.specs.Lines.{Entry, Row, no-row, row-at, house, next-line}
 use Rattle.rules.specs.Lines.{Made as Outcome}
 use Rattle.rules.specs.Lines.Made.{made, refused}
-use Rattle.rules.specs.Checking.{Passed, lines-from, all-lines}
-use Rattle.rules.specs.Checking.Passed.{passed, stopped}
+use Rattle.rules.specs.Checking.{lines-from, all-lines}
+use Rattle.rules.specs.Checking.Passed.{stopped}
 use Rattle.rules.specs.Tables.{padded, holding, rows-of, clause-row, node-row, root-row, line-table, node-table, root-table}
 use Rattle.sets.specs.Values.{clause-of, length-clause-row}
 use Rattle.checker.specs.declared.game.Game.{Game}
 use Rattle.checker.specs.declared.axioms.Made.{Made}
 use Rattle.checker.specs.declared.run.Verdict.{Verdict}
 use Rattle.checker.specs.Rows.{Row-of}
-use Rattle.checker.specs.Makes.{Makes, Whole, Standing, Ready, Ready-tables}
+use Rattle.checker.specs.Makes.{Makes, Whole, Standing, Ready}
 use Rattle.checker.specs.Runs.{with-row, Blank, Kept-past, Ran, So-far}
-use Rattle.checker.proofs.Tables.{Wide, rows-length, rows-snoc, holding-put, holding-drop, came-back, padded-length}
+use Rattle.formula.proofs.HoldingLaws.{rows-snoc, holding-put, padded-length}
+use Rattle.checker.proofs.Tables.{Wide, rows-length, holding-drop, came-back}
 
 -- ---- a row of a table, lent and written
 -- the part of a table that row i is, come back as r

@@ -1,14 +1,15 @@
 -- Tables of rows of one width: a row read back, and a row written behind those that stand.
-use mathlib.Core.Path.{_≡_, refl, sym, ap, _∙_}
-use mathlib.Core.List.{List, [], _∷_, _++_, append-assoc, append-nil}
+use mathlib.Core.Path.{_≡_, sym, ap, _∙_}
+use mathlib.Core.List.{List, [], _∷_, _++_}
 use Prim.Native.Nat.{ℕ, zero, suc, _+_, _-_, _*_, _≤_, _<_}
 use native.Mathlib.Omega.{arith}
 use native.Mathlib.Nat.{mul-suc, mul-zero, mul-le-mul-left}
 use native.Mathlib.Numerals.{add-one}
-use lib.ListN.{length, getD, take, drop, set, replicate, length-append, length-replicate, length-drop, List·getD-append, getD-replicate, replicate-append-replicate}
-use lib.Seq.{take-at, drop-at, drop-drop, take-append-le, drop-append-le, drop-append-add, getD-append-add, take-suc, set-at, take-all, length-take-le, append-snoc, ext-getD, getD-take, getD-drop, take-suc-set}
+use lib.ListN.{length, getD, take, drop, set, length-append, length-drop, List·getD-append, getD-replicate}
+use lib.Seq.{drop-at, drop-drop, getD-append-add, take-suc, set-at, take-all, length-take-le, append-snoc, ext-getD, getD-take, getD-drop, take-suc-set}
 use borrow.Rule.Slice.PartMut.{putMid}
 use Rattle.rules.specs.Tables.{padded, rows-of, holding}
+use Rattle.formula.proofs.HoldingLaws.{zeros, zeros-length, flat, padded-length}
 
 -- ---- rows of one width
 mul-suc-le : (w i n : ℕ) → i < n → w * i + w ≤ w * n
@@ -17,11 +18,6 @@ mul-suc-le w i n h = let m : w * suc i ≤ w * n = mul-le-mul-left w h in omega 
 -- every row of the list is w words wide
 abbrev pub Wide : {A : Type 0} → ℕ → (A → List ℕ) → A → List A → Type 0
 Wide w f d rows = (i : ℕ) → i < length rows → length (f (getD rows i d)) ≡ w
-
-pub rows-snoc : {A : Type 0} (f : A → List ℕ) (rows : List A) (row : A) → rows-of f (rows ++ (row ∷ [])) ≡ rows-of f rows ++ f row
-unfolding rows-of
-rows-snoc f [] row = append-nil (f row)
-rows-snoc f (a ∷ rows) row = ap (λ (l : List ℕ). f a ++ l) (rows-snoc f rows row) ∙ sym (append-assoc (f a) (rows-of f rows) (f row))
 
 pub rows-length : {A : Type 0} (w : ℕ) (f : A → List ℕ) (d : A) (rows : List A) → Wide w f d rows → length (rows-of f rows) ≡ w * length rows
 unfolding rows-of
@@ -46,63 +42,23 @@ rows-at w f d (a ∷ rows) h (suc i) j hi hj =
     rw z (getD-append-add (f a) (rows-of f rows) (w * i + j) 0 ∙ rows-at w f d rows (λ k l. h (suc k) (omega arith)) i j (omega arith) hj)
 
 -- ---- a table that holds words, otherwise zero
-abbrev zeros : ℕ → List ℕ
-zeros n = replicate n 0
-
-zeros-length : (n : ℕ) → length (zeros n) ≡ n
-zeros-length n = length-replicate n 0
-
 module _ (n : ℕ) (ws lent : List ℕ) where
-  -- the words, the zeros, and what was lent
-  flat : holding n ws lent ≡ ws ++ (zeros (n - length ws) ++ drop n lent)
-  unfolding holding padded
-  flat = append-assoc ws (zeros (n - length ws)) (drop n lent)
-
   pub holding-at : (k : ℕ) → k < length ws → getD (holding n ws lent) k 0 ≡ getD ws k 0
-  holding-at k h = rw flat (List·getD-append ws (zeros (n - length ws) ++ drop n lent) 0 k h)
+  holding-at k h = rw (flat n ws lent) (List·getD-append ws (zeros (n - length ws) ++ drop n lent) 0 k h)
 
   pub holding-past : (k : ℕ) → length ws ≤ k → k < n → getD (holding n ws lent) k 0 ≡ 0
   holding-past k l h =
       let e : k ≡ length ws + (k - length ws) = omega arith in
       let m : k - length ws < length (zeros (n - length ws)) = omega (arith, zeros-length (n - length ws)) in
-      ap (λ (t : List ℕ). getD t k 0) flat
+      ap (λ (t : List ℕ). getD t k 0) (flat n ws lent)
       ∙ ap (λ (i : ℕ). getD (ws ++ (zeros (n - length ws) ++ drop n lent)) i 0) e
       ∙ getD-append-add ws (zeros (n - length ws) ++ drop n lent) (k - length ws) 0
       ∙ List·getD-append (zeros (n - length ws)) (drop n lent) 0 (k - length ws) m
       ∙ getD-replicate {A = ℕ} (n - length ws) (k - length ws) 0 0 (omega arith)
 
-  pub padded-length : length ws ≤ n → length (padded n ws) ≡ n
-  unfolding padded
-  padded-length l = length-append ws (zeros (n - length ws)) ∙ omega (arith, zeros-length (n - length ws))
-
   pub holding-drop : length ws ≤ n → drop n (holding n ws lent) ≡ drop n lent
   unfolding holding
-  holding-drop l = drop-at (padded n ws) (drop n lent) n (padded-length l)
-
-  pub holding-length : length ws ≤ n → n ≤ length lent → length (holding n ws lent) ≡ length lent
-  unfolding holding
-  holding-length l h = length-append (padded n ws) (drop n lent) ∙ omega (arith, padded-length l, length-drop n lent)
-
-  -- a row of words written behind those that stand
-  pub holding-put : (r : List ℕ) (a b : ℕ) → length ws ≡ a → a + length r ≡ b → b ≤ n
-      → take a (holding n ws lent) ++ (r ++ drop b (holding n ws lent)) ≡ holding n (ws ++ r) lent
-  unfolding holding padded
-  holding-put r a b e f h =
-      let rest : List ℕ = drop n lent in
-      let k : length (ws ++ r) ≡ length ws + length r = length-append ws r in
-      let t : take a (holding n ws lent) ≡ ws = ap (take a) flat ∙ take-at ws (zeros (n - length ws) ++ rest) a e in
-      let q : b ≡ length ws + length r = omega arith in
-      let m : n - length ws ≡ length r + (n - length (ws ++ r)) = omega arith in
-      let z : zeros (n - length ws) ≡ zeros (length r) ++ zeros (n - length (ws ++ r))
-      = ap (λ (i : ℕ). zeros i) m ∙ sym (replicate-append-replicate (length r) (n - length (ws ++ r)) 0) in
-      let d : drop b (holding n ws lent) ≡ zeros (n - length (ws ++ r)) ++ rest
-      = ap (drop b) flat
-      ∙ ap (λ (i : ℕ). drop i (ws ++ (zeros (n - length ws) ++ rest))) q
-      ∙ drop-append-add ws (zeros (n - length ws) ++ rest) (length r)
-      ∙ ap (λ (l : List ℕ). drop (length r) (l ++ rest)) z
-      ∙ ap (drop (length r)) (append-assoc (zeros (length r)) (zeros (n - length (ws ++ r))) rest)
-      ∙ drop-at (zeros (length r)) (zeros (n - length (ws ++ r)) ++ rest) (length r) (zeros-length (length r)) in
-      rw (t, d) (sym (append-assoc ws r (zeros (n - length (ws ++ r)) ++ rest)) ∙ sym (append-assoc (ws ++ r) (zeros (n - length (ws ++ r))) rest))
+  holding-drop l = drop-at (padded n ws) (drop n lent) n (padded-length n ws lent l)
 
 -- the part from a to b of a table, lent and come back as r
 pub came-back : (t ys r : List ℕ) (a b : ℕ) → a ≤ b → ys ≡ r → putMid a (b - a) t ys ≡ take a t ++ (r ++ drop b t)
@@ -144,14 +100,6 @@ module _ {A : Type 0} (w n : ℕ) (f : A → List ℕ) (d : A) (rows : List A) (
 
       word : (j : ℕ) → j < length (take w (drop (w * i) t)) → getD (take w (drop (w * i) t)) j 0 ≡ getD (f (getD rows i d)) j 0
       word j h = let k : j < w = omega (arith, size) in getD-take w (drop (w * i) t) j 0 k ∙ getD-drop (w * i) t j 0 ∙ table-word i j hi k
-
-  -- one row more, written behind those that stand
-  pub table-more : (row : A) (ys : List ℕ) (a b : ℕ) → a ≡ w * length rows → b ≡ a + w → b ≤ n → ys ≡ f row → length (f row) ≡ w
-      → putMid a (b - a) t ys ≡ holding n (rows-of f (rows ++ (row ∷ []))) lent
-  table-more row ys a b ha hb h y k =
-      let l : length (rows-of f rows) ≡ a = rows-length w f d rows wide ∙ sym ha in
-      came-back t ys (f row) a b (omega arith) y
-      ∙ rw (e, rows-snoc f rows row) (holding-put n (rows-of f rows) lent (f row) a b l (omega arith) h)
 
 -- ---- a local row of n places, filled from the front
 pub padded-more : (n : ℕ) (ws : List ℕ) (j : ℕ) → j < length ws → length ws ≤ n → set (padded n (take j ws)) j (getD ws j 0) ≡ padded n (take (suc j) ws)

@@ -7,7 +7,7 @@ use Rattle.rules.specs.Limits.{prefix-words, clause-words, line-words, map-word
 use Rattle.rules.specs.Formula.{Formula}
 use Rattle.rules.specs.Proper.{Proper}
 use Rattle.rules.specs.File.{split}
-use Rattle.rules.specs.Lines.{Row, house}
+use Rattle.rules.specs.Lines.{house}
 use Rattle.rules.specs.Checking.{Checked, all-lines, when-passed, refutation}
 use Rattle.rules.specs.Checking.Checked.{rejected, accepted}
 use Rattle.rules.specs.Tables.{holding, prefix-table, clause-table, line-table, node-table, root-table}

@@ -6,4 +6,3 @@ pub mod Selects
 pub mod MapRows
 pub mod Runs
 pub mod Checks
-pub mod Answers

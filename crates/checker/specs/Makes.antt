@@ -1,7 +1,7 @@
 -- What a line makes, by value, and the formula as checking has it: its game and its clause table.
 use mathlib.Core.Path.{_≡_}
-use mathlib.Core.List.{List, [], _∷_}
-use Prim.Native.Nat.{ℕ, suc, _≤_, _<_}
+use mathlib.Core.List.{List, []}
+use Prim.Native.Nat.{ℕ, suc, _≤_}
 use lib.ListN.{length}
 use Rattle.rules.specs.Limits.{clause-words, line-words, map-words, lines-most}
 use Rattle.rules.specs.Formula.{Formula}

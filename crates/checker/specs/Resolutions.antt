@@ -1,10 +1,9 @@
 -- A resolution's tests and row as the tables give them.
 use mathlib.Core.Path.{_≡_}
-use mathlib.Core.Bool.{Bool, true, false, not, _||_}
+use mathlib.Core.Bool.{not, _||_}
 use mathlib.Core.List.{List, [], _∷_}
-use Prim.Native.Nat.{ℕ, _+_, _-_, _*_, _^_, _≤_, _<_}
+use Prim.Native.Nat.{ℕ, _-_, _^_, _≤_}
 use lib.Dec.{leb}
-use lib.ListN.{length, getD}
 use Rattle.rules.specs.declared.Resolution.{Resolution}
 use Rattle.rules.specs.Limits.{no-parent, no-pivot, lacks-plain, lacks-negated, no-universal, result-both-ways}
 use Rattle.rules.specs.Sets.{has}

@@ -1,8 +1,8 @@
 -- Rows by value and in the tables, as the rules' rows.
 use mathlib.Core.Path.{_≡_}
-use mathlib.Core.List.{List, [], _∷_, map}
-use Prim.Native.Nat.{ℕ, _+_, _-_, _*_, _≤_, _<_}
-use lib.ListN.{length, getD, take, drop}
+use mathlib.Core.List.{List, map}
+use Prim.Native.Nat.{ℕ, _-_, _*_}
+use lib.ListN.{take, drop}
 use Rattle.rules.specs.Limits.{set-words, universals-most}
 use Rattle.rules.specs.Formula.{Clause as Literals}
 use Rattle.rules.specs.Maps.{node-word}

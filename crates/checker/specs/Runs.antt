@@ -8,7 +8,7 @@ use Rattle.rules.specs.Formula.{Formula}
 use Rattle.rules.specs.Lines.{Row, house}
 use Rattle.rules.specs.Checking.{Passed, lines-from, all-lines}
 use Rattle.rules.specs.Checking.Passed.{passed, stopped}
-use Rattle.rules.specs.Tables.{holding, line-table, node-table, root-table}
+use Rattle.rules.specs.Tables.{holding}
 use Rattle.checker.specs.declared.run.Verdict.{Verdict}
 use Rattle.checker.specs.Makes.{Standing}
 

@@ -1,5 +1,6 @@
 // An axiom's row: the clause keeps its existential literals, and each universal gets a leaf.
 use crate::game::Game;
+use crate::limits::NO_CLAUSE;
 use crate::rows;
 use crate::rows::MapRow;
 use rules::Node;
@@ -79,10 +80,10 @@ pub fn axiom_line(g: Game, clauses: &[u64], c: u32, i: u32) -> Made
     ensures { λ r. ⌜ ((F : Formula) (rows : List Row) → Whole F g (now (clauses .entry)) → Makes (line-made (house F) F rows i (L.Axiom c)) r) ⌝ }
 {
     if c < 1 {
-        return refuse(23, 0);
+        return refuse(NO_CLAUSE, 0);
     }
     if g.count < c {
-        return refuse(23, 0);
+        return refuse(NO_CLAUSE, 0);
     }
     let existentials = g.existentials;
     let vars = g.vars;

@@ -1,5 +1,6 @@
 // The proof over a formula that the tables hold: its head, its lines, and the last clause.
 use crate::game;
+use crate::limits::NOT_EMPTY;
 use crate::rows;
 use crate::run;
 use proof::Head;
@@ -71,7 +72,7 @@ fn check_lines(
             lines: n,
         };
     }
-    reject(32, n, 0)
+    reject(NOT_EMPTY, n, 0)
 }
 
 // The whole proof: its head first.

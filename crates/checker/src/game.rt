@@ -1,5 +1,7 @@
 // What checking asks of a formula that is read: its counts, its existential variables, and for each
 // universal its variable and the set of the variables left of it.
+use crate::limits::PREFIX_WORDS;
+use crate::limits::UNIVERSAL_MARK;
 use sets::Set;
 ghost use mathlib.Core.Path.{_≡_};
 ghost use Prim.Native.Nat.{ℕ, _≤_, _<_};
@@ -36,7 +38,7 @@ fn existential(s: Set, word: u32) -> Set
     if word == 0 {
         return s;
     }
-    if 256 <= word {
+    if UNIVERSAL_MARK <= word {
         return s;
     }
     s.with(word)
@@ -48,7 +50,7 @@ fn find_existentials(prefix: &[u32]) -> Set
     ensures { λ r. ⌜ ((F : Formula) → Prefixed F (now (prefix .entry)) → set-of r ≡ existentials (F .prefix)) ⌝ }
 {
     let mut s = Set::none();
-    let mut i: usize = 64;
+    let mut i: usize = PREFIX_WORDS;
     while 0 < i {
         i -= 1;
         let w = prefix[i];
@@ -82,7 +84,7 @@ impl Game {
         let bound = self.bound;
         let mut vars = self.vars;
         let mut left = self.left;
-        if word < 256 {
+        if word < UNIVERSAL_MARK {
             return Game {
                 count: self.count,
                 universals: self.universals,
@@ -92,7 +94,7 @@ impl Game {
                 bound: bound.with(word),
             };
         }
-        vars[j] = word - 256;
+        vars[j] = word - UNIVERSAL_MARK;
         left[j] = bound;
         Game {
             count: self.count,
@@ -100,7 +102,7 @@ impl Game {
             existentials,
             vars,
             left,
-            bound: bound.with(word - 256),
+            bound: bound.with(word - UNIVERSAL_MARK),
         }
     }
 }
@@ -112,7 +114,7 @@ pub fn game_of(prefix: &[u32], count: u32) -> Game
 {
     let mut g = Game::begin(count, find_existentials(prefix));
     let mut i: usize = 0;
-    while i < 64 {
+    while i < PREFIX_WORDS {
         let w = prefix[i];
         if w == 0 {
             return g;

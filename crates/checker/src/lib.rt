@@ -1,8 +1,8 @@
 // From a proof file's bytes to the checked rows in the lent tables.
-pub mod answers;
 pub mod axioms;
 pub mod check;
 pub mod game;
+mod limits;
 pub mod lines;
 pub mod maps_row;
 pub mod resolutions;

@@ -1,5 +1,7 @@
 // A resolution's maps: for each universal in order its node and its root, or the first refusal.
 use crate::game::Game;
+use crate::limits::NO_SELECT;
+use crate::limits::NOT_LEFT;
 use crate::rows::MapRow;
 use crate::select;
 use crate::select::Selected;
@@ -72,7 +74,7 @@ fn merge_entry(left: Set, x: u32, a: u32, b: u32, i: u32) -> MapEntry
         return MapEntry {
             node: 0,
             root: 0,
-            refusal: 30,
+            refusal: NOT_LEFT,
         };
     }
     let n = Node::Branch { x, a, b };
@@ -98,7 +100,7 @@ fn select_entry(nodes: &[u32], j: usize, a: u32, b: u32) -> MapEntry
         Selected::Undefined => MapEntry {
             node: 0,
             root: 0,
-            refusal: 31,
+            refusal: NO_SELECT,
         },
     }
 }

@@ -1,4 +1,10 @@
 // A resolution's clause, by the rules 24 to 29 in their order.
+use crate::limits::LACKS_NEGATED;
+use crate::limits::LACKS_PLAIN;
+use crate::limits::NO_PARENT;
+use crate::limits::NO_PIVOT;
+use crate::limits::NO_UNIVERSAL;
+use crate::limits::RESULT_BOTH_WAYS;
 use crate::rows;
 use rules::Resolution;
 use sets::Clause;
@@ -56,31 +62,31 @@ pub fn join_parents(
     let b = r.b as u32;
     let x = r.pivot as u32;
     if !is_earlier(i, a) {
-        return stop(24);
+        return stop(NO_PARENT);
     }
     if !is_earlier(i, b) {
-        return stop(24);
+        return stop(NO_PARENT);
     }
     if !existentials.has(x) {
-        return stop(25);
+        return stop(NO_PIVOT);
     }
     let first = rows::clause_at(lines, a);
     let second = rows::clause_at(lines, b);
     let plain = first.plain;
     if !plain.has(x) {
-        return stop(26);
+        return stop(LACKS_PLAIN);
     }
     let negated = second.negated;
     if !negated.has(x) {
-        return stop(27);
+        return stop(LACKS_NEGATED);
     }
     let most = 1u32 << universals;
     if most <= r.merge as u32 {
-        return stop(28);
+        return stop(NO_UNIVERSAL);
     }
     let clause = first.resolvent(second, x);
     if clause.two_faced() {
-        return stop(29);
+        return stop(RESULT_BOTH_WAYS);
     }
     Joined { clause, refusal: 0 }
 }

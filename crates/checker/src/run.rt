@@ -1,6 +1,9 @@
 // All lines in order: each made after the rows before it, and written into its row.
 use crate::axioms::Made;
 use crate::game::Game;
+use crate::limits::HEAD_BYTES;
+use crate::limits::RECORD_BYTES;
+use crate::limits::UNIVERSALS_MOST;
 use crate::lines as line;
 use crate::rows;
 use crate::rows::MapRow;
@@ -50,8 +53,8 @@ fn put_line(
     let s = i * w;
     let t = s + w;
     clause.write(&mut lines[s..t]);
-    let a = i * 16;
-    let e = a + 16;
+    let a = i * UNIVERSALS_MOST;
+    let e = a + UNIVERSALS_MOST;
     rows::write_row(&mut nodes[a..e], &mut roots[a..e], row);
 }
 
@@ -70,8 +73,8 @@ pub fn run(
 {
     let mut i: usize = 0;
     while i < n {
-        let a = 7 + 8 * i;
-        let e = a + 8;
+        let a = HEAD_BYTES + RECORD_BYTES * i;
+        let e = a + RECORD_BYTES;
         let m = line::make_line(
             g,
             &proof[a..e],

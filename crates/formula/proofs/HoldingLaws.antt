@@ -12,19 +12,19 @@ pub holding-none : (n : ℕ) (l : List ℕ) → replicate n 0 ++ drop n l ≡ ho
 unfolding holding padded
 holding-none n l = let e : n ≡ n - 0 = omega arith in ap (λ (k : ℕ). replicate k 0 ++ drop n l) e
 
-abbrev zeros : ℕ → List ℕ
+abbrev pub zeros : ℕ → List ℕ
 zeros n = replicate n 0
 
-zeros-length : (n : ℕ) → length (zeros n) ≡ n
+pub zeros-length : (n : ℕ) → length (zeros n) ≡ n
 zeros-length n = length-replicate n 0
 
 module _ (n : ℕ) (ws lent : List ℕ) where
   -- the words, the zeros, and what was lent
-  flat : holding n ws lent ≡ ws ++ (zeros (n - length ws) ++ drop n lent)
+  pub flat : holding n ws lent ≡ ws ++ (zeros (n - length ws) ++ drop n lent)
   unfolding holding padded
   flat = append-assoc ws (zeros (n - length ws)) (drop n lent)
 
-  padded-length : length ws ≤ n → length (padded n ws) ≡ n
+  pub padded-length : length ws ≤ n → length (padded n ws) ≡ n
   unfolding padded
   padded-length l = length-append ws (zeros (n - length ws)) ∙ omega (arith, zeros-length (n - length ws))
 

@@ -1,30 +1,21 @@
 -- The head's first refusal, byte by byte.
-use mathlib.Core.Path.{_≡_, refl, sym, ap, ap₂, _∙_}
-use mathlib.Core.Bool.{Bool, true, false, not, _&&_, _||_, false≢true}
+use mathlib.Core.Path.{_≡_, refl, sym, _∙_}
+use mathlib.Core.Bool.{true, false, not, _&&_, _||_, false≢true}
 use mathlib.Core.Logic.{by-cases}
 use mathlib.Core.List.{List, [], _∷_}
-use Prim.Native.Nat.{ℕ, zero, suc, _+_, _*_, _≤_, _<_}
+use Prim.Native.Nat.{ℕ, _+_, _*_, _≤_, _<_}
 use native.Mathlib.Omega.{arith}
 use native.Mathlib.Decide.{decLt}
 use lib.Dec.{eqb, ltb}
 use lib.ListN.{length, getD, take}
-use borrow.Author.Tests.{lt-ltb, le-ltb, eq-eqb, ne-eqb, eqb-true}
+use borrow.Author.Tests.{lt-ltb, le-ltb, eq-eqb, ne-eqb}
 use Rattle.rules.specs.Text.{spelled}
+use Rattle.rules.specs.FormulaLaws.{eqb-comm}
 use Rattle.rules.specs.File.{pair-at}
-use Rattle.rules.specs.Faults.{Fault, fault, Found, first-of}
+use Rattle.rules.specs.Faults.{Fault, fault, first-of}
 use Rattle.rules.specs.File.{head-fault}
 use Rattle.proof.specs.Head.{unmarked, headed, head-of}
 use Rattle.proof.specs.declared.Head.the-variants as H
-
--- two tests that each give the other are one
-same-test : (s t : Bool) → (s ≡ true → t ≡ true) → (t ≡ true → s ≡ true) → s ≡ t
-same-test true t f g = sym (f refl)
-same-test false true f g = g refl
-same-test false false f g = refl
-
--- a test of equality, either way round
-eqb-sym : (a b : ℕ) → eqb a b ≡ eqb b a
-eqb-sym a b = same-test _ _ (λ e. eq-eqb b a (sym (eqb-true a b e))) (λ e. eq-eqb a b (sym (eqb-true b a e)))
 
 -- the mark's three bytes
 spelled-three : (x y z : ℕ) (s : List ℕ) → 3 ≤ length s
@@ -33,7 +24,7 @@ unfolding spelled
 spelled-three x y z [] h = absurd (omega arith)
 spelled-three x y z (a ∷ []) h = absurd (omega arith)
 spelled-three x y z (a ∷ b ∷ []) h = absurd (omega arith)
-spelled-three x y z (a ∷ b ∷ c ∷ s) h = rw (eqb-sym x a, eqb-sym y b, eqb-sym z c)
+spelled-three x y z (a ∷ b ∷ c ∷ s) h = rw (eqb-comm x a, eqb-comm y b, eqb-comm z c)
 
 -- of 7 bytes the mark and the version decide
 pub marks : (s : List ℕ) → 7 ≤ length s

@@ -9,6 +9,17 @@ ghost use lib.ListN.{length};
 ghost use Rattle.rules.specs.File.{pair-at, bare-tail, decoded};
 ghost use Rattle.proof.specs.Head.{unmarked, head-of};
 
+// Refusal numbers.
+const BAD_MARK: u32 = 11;
+
+const BAD_LENGTH: u32 = 12;
+
+const BAD_LINE_COUNT: u32 = 13;
+
+const BAD_KIND: u32 = 21;
+
+const AXIOM_TAIL: u32 = 22;
+
 // The head as examined: the number of the refusal, or the line count.
 pub enum Head {
     Fault(u32),
@@ -63,7 +74,7 @@ pub fn decode(rec: &[u8]) -> Decoded
         if bare(rec) {
             return Decoded::Line(Line::Axiom(pair(rec, 1)));
         }
-        return Decoded::Refused(22);
+        return Decoded::Refused(AXIOM_TAIL);
     }
     if kind == 2 {
         return Decoded::Line(Line::Resolve(Resolution {
@@ -73,7 +84,7 @@ pub fn decode(rec: &[u8]) -> Decoded
             merge: pair(rec, 6),
         }));
     }
-    Decoded::Refused(21)
+    Decoded::Refused(BAD_KIND)
 }
 
 // The file has 7 bytes, the mark MRP and version 1.
@@ -103,17 +114,17 @@ pub fn read_head(proof: &[u8]) -> Head
     ensures { λ r. ⌜ ((k : ℕ) → r ≡ head-of k (now (proof .entry))) ⌝ }
 {
     if !marked(proof) {
-        return Head::Fault(11);
+        return Head::Fault(BAD_MARK);
     }
     let n = pair(proof, 5) as usize;
     if proof.len() != 7 + 8 * n {
-        return Head::Fault(12);
+        return Head::Fault(BAD_LENGTH);
     }
     if n < 1 {
-        return Head::Fault(13);
+        return Head::Fault(BAD_LINE_COUNT);
     }
     if 1024 < n {
-        return Head::Fault(13);
+        return Head::Fault(BAD_LINE_COUNT);
     }
     Head::Lines(n as u32)
 }

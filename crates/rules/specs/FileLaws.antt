@@ -1,23 +1,22 @@
 -- A line goes into the file and comes back; the records of a file of lines are those lines, and its head passes.
-use mathlib.Core.Path.{_≡_, refl, sym, ap, ap₂, _∙_}
-use mathlib.Core.Bool.{Bool, true, false, not, _&&_, _||_, true≢false, false≢true}
-use mathlib.Core.List.{List, [], _∷_, _++_, map}
+use mathlib.Core.Path.{_≡_, refl, sym, ap, _∙_}
+use mathlib.Core.Bool.{Bool, true, false, not, _&&_, _||_, false≢true}
+use mathlib.Core.List.{List, [], _∷_, map}
 use Prim.Native.Nat.{ℕ, zero, suc, _+_, _*_, _/_, _%_, _≤_, _<_}
 use native.Mathlib.Omega.{arith}
-use lib.Dec.{eqb, ltb, T, eqb-refl}
+use lib.Dec.{eqb, ltb}
 use lib.ListN.{length, getD, take, drop, length-append}
 use lib.Seq.{take-at, drop-at, drop-drop}
 use borrow.Author.Tests.{eq-eqb, ne-eqb, eqb-true, eqb-false, le-ltb}
 use Rattle.rules.specs.declared.Resolution.{Resolution}
 use Rattle.rules.specs.declared.Line.{Line}
 use Rattle.rules.specs.declared.Line.the-variants as L
-use Rattle.rules.specs.declared.Decoded.{Decoded}
 use Rattle.rules.specs.declared.Decoded.the-variants as D
 use Rattle.rules.specs.Limits.{record-bytes, head-bytes, lines-most, bad-mark, bad-length, bad-line-count, bad-kind, axiom-tail}
 use Rattle.rules.specs.Text.{spelled}
-use Rattle.rules.specs.Faults.{Fault, fault, Found, first-of}
+use Rattle.rules.specs.Faults.{Fault, fault, first-of}
 use Rattle.rules.specs.Faults.Found.{passes, fails}
-use Rattle.rules.specs.File.{Form, pair-at, bare-tail, resolution-at, decoded, pair-bytes, encoded, encoded-all, file-of, split, records, announced, head-fault}
+use Rattle.rules.specs.File.{Form, pair-at, bare-tail, resolution-at, decoded, encoded, encoded-all, file-of, split, records, announced, head-fault}
 
 -- ---- of a list of tests the first that is to be given decides
 pub first-given : (n : ℕ) (t : Bool) (fs : List Fault) → t ≡ true → first-of (fault n t ∷ fs) ≡ fails n 0
