@@ -20,7 +20,7 @@ use Rattle.checker.specs.declared.game.Game.{Game}
 use Rattle.checker.specs.declared.axioms.Made.{Made}
 use Rattle.checker.specs.Rows.{clause-part, players, Row-of}
 use Rattle.checker.specs.Makes.{Makes, Whole}
-use Rattle.checker.proofs.Tables.{Wide, table-part}
+use Rattle.rules.specs.TableLaws.{Wide, table-part}
 
 -- a clause of the matrix has its words
 clause-worded : (F : Formula) → Proper F → (i : ℕ) → i < length (F .matrix) → Worded (getD (F .matrix) i no-literal)

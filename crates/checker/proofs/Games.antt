@@ -24,7 +24,7 @@ use Rattle.sets.specs.declared.Set.{Set}
 use Rattle.sets.specs.Values.{set-of}
 use Rattle.checker.specs.declared.game.Game.{Game}
 use Rattle.checker.specs.Game.{Prefixed, Narrow, with-word, left-set, Game-of, Bound-first, Bound-more, More-exists, More-forall}
-use Rattle.checker.proofs.Tables.{holding-at, holding-past, padded-more}
+use Rattle.rules.specs.TableLaws.{holding-at, holding-past, padded-more}
 
 -- ---- left of a place of the prefix are the variables before it
 pub left-taken : (Q : List Bound) → Distinct Q → (p x : ℕ) → p < length Q → left-of Q x (var-at Q p) ≡ bound (take p Q) x

@@ -12,7 +12,7 @@ use Rattle.rules.specs.Maps.{node-word}
 use Rattle.rules.specs.Lines.{Entry, no-entry, each}
 use Rattle.rules.specs.GoodLaws.{each-at, each-length}
 use Rattle.rules.specs.Tables.{padded}
-use Rattle.checker.proofs.Tables.{padded-more, padded-all}
+use Rattle.rules.specs.TableLaws.{padded-more, padded-all}
 
 module _ (f : ℕ → ℕ → Entry) (us : List ℕ) (word : Entry → ℕ) (zero-word : word no-entry ≡ 0) where
   abbrev words : List ℕ

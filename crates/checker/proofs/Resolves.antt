@@ -29,7 +29,7 @@ use Rattle.checker.specs.Rows.{clause-part}
 use Rattle.checker.specs.Makes.{Makes, Standing, Ready}
 use Rattle.checker.specs.Resolutions.{table-result, clause-tests, Joins}
 use Rattle.checker.specs.MapRows.{Resolving, Maps-made}
-use Rattle.checker.proofs.Tables.{Wide, table-part}
+use Rattle.rules.specs.TableLaws.{Wide, table-part}
 
 -- ---- tests in a row: the first part decides, or passes and leaves it to the second
 first-fails : (fs gs : List Fault) (n v : ℕ) → first-of fs ≡ fails n v → first-of (fs ++ gs) ≡ fails n v

@@ -29,8 +29,8 @@ use Rattle.checker.specs.declared.run.Verdict.{Verdict}
 use Rattle.checker.specs.Rows.{Row-of}
 use Rattle.checker.specs.Makes.{Makes, Whole, Standing, Ready}
 use Rattle.checker.specs.Runs.{with-row, Blank, Kept-past, Ran, So-far}
-use Rattle.formula.proofs.HoldingLaws.{rows-snoc, holding-put, padded-length}
-use Rattle.checker.proofs.Tables.{Wide, rows-length, holding-drop, came-back}
+use Rattle.rules.specs.TableLaws.{rows-snoc, holding-put, padded-length, Wide, rows-length, holding-drop}
+use Rattle.checker.proofs.Tables.{came-back}
 
 -- ---- a row of a table, lent and written
 -- the part of a table that row i is, come back as r

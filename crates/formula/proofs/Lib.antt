@@ -3,5 +3,4 @@ pub mod TokenLaws
 pub mod NumberLaws
 pub mod StateLaws
 pub mod StepLaws
-pub mod HoldingLaws
 pub mod ReadingLaws

@@ -31,7 +31,7 @@ use Rattle.formula.specs.States.{place-of, state-of, Stands, Small, Begu
 use Rattle.formula.specs.Readings.{outcome-of, outcome-refused, outcome-formula, Ends, Filled, Left}
 use Rattle.formula.proofs.TokenLaws.{from-skip, from-token, from-end, none-left}
 use Rattle.formula.proofs.StateLaws.{few-blocks, few-clauses, stands-small, stands-begin}
-use Rattle.formula.proofs.HoldingLaws.{holding-length, holding-over, holding-word, holding-put, rows-snoc}
+use Rattle.rules.specs.TableLaws.{holding-length, holding-over, holding-word, holding-put, rows-snoc}
 
 -- ---- the text's end
 module _ (n : ℕ) (s : State) (bs : List Bound) (cs : List formula.Clause) (h : Stands s bs cs) where

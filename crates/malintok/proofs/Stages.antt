@@ -23,7 +23,7 @@ use Rattle.rules.specs.Checking.Passed.{passed, stopped}
 use Rattle.rules.specs.Checking.Checked.{rejected, accepted}
 use Rattle.rules.specs.Tables.{bound-word, clause-row, rows-of, padded, holding, prefix-table, clause-table, prefix-after, clauses-after, lines-after, nodes-after, roots-after, Leaves, table-after}
 use Rattle.rules.specs.Tables.Leaves.{untouched, zeroed, filled}
-use Rattle.rules.specs.TableLaws.{rows-length, holding-drop, holding-length}
+use Rattle.rules.specs.TableLaws.{rows-length, holding-length, holding-same, holding-twice, holding-again}
 use Rattle.rules.specs.GoodLaws.{numbered-in}
 use Rattle.sets.specs.Values.{length-clause-row}
 use Rattle.rules.specs.Services.{Lent, Answer, refusal, success, read-answer, check-answer}
@@ -34,18 +34,6 @@ use Rattle.checker.specs.declared.check.Findings.{Findings}
 use Rattle.checker.specs.Runs.{Blank, Kept-past}
 use Rattle.checker.specs.Checks.{In-tables, Filled-tables, Checks}
 use Rattle.malintok.specs.Calls.{Long, with-lines, Answers, Proof-in}
-
--- ---- a table that holds words holds them whatever it held before
--- what a table holds depends on the words past its minimum only
-pub holding-same : (n : ℕ) (ws a b : List ℕ) → drop n a ≡ drop n b → holding n ws a ≡ holding n ws b
-unfolding holding
-holding-same n ws a b e = ap (λ (l : List ℕ). padded n ws ++ l) e
-
-pub holding-twice : (n : ℕ) (ws vs a b : List ℕ) → length vs ≤ n → b ≡ holding n vs a → holding n ws b ≡ holding n ws a
-holding-twice n ws vs a b h e = holding-same n ws b a (ap (drop n) e ∙ holding-drop n vs a h)
-
-pub holding-again : (n : ℕ) (ws a b : List ℕ) → length ws ≤ n → b ≡ holding n ws a → b ≡ holding n ws b
-holding-again n ws a b h e = e ∙ sym (holding-twice n ws ws a b h e)
 
 none-fits : (n : ℕ) → length {A = ℕ} [] ≤ n
 none-fits n = omega arith

@@ -1,11 +1,11 @@
 -- Tables of rows of one width: a row read back, and a row written behind those that stand.
 use mathlib.Core.Path.{_≡_, refl, sym, ap, _∙_}
 use mathlib.Core.List.{List, [], _∷_, _++_, append-assoc, append-nil}
-use Prim.Native.Nat.{ℕ, zero, suc, _+_, _-_, _*_, _≤_, _<_}
+use Prim.Native.Nat.{ℕ, zero, suc, _+_, _-_, _*_, _≤_, _<_, zero-le}
 use native.Mathlib.Omega.{arith}
 use native.Mathlib.Nat.{mul-suc, mul-zero, mul-le-mul-left}
 use lib.ListN.{length, getD, take, drop, set, replicate, length-append, length-replicate, length-drop, List·getD-append, getD-replicate, replicate-append-replicate}
-use lib.Seq.{take-at, drop-at, drop-drop, take-append-le, drop-append-le, drop-append-add, getD-append-add, take-suc, set-at, take-all, length-take-le, append-snoc, ext-getD, getD-take, getD-drop}
+use lib.Seq.{take-at, drop-at, drop-drop, take-append-le, drop-append-le, drop-append-add, getD-append-add, take-suc, set-at, set-split, take-all, length-take-le, append-snoc, ext-getD, getD-take, getD-drop}
 use Rattle.rules.specs.Tables.{padded, rows-of, holding}
 
 -- ---- rows of one width
@@ -44,15 +44,20 @@ rows-at w f d (a ∷ rows) h (suc i) j hi hj =
     rw z (getD-append-add (f a) (rows-of f rows) (w * i + j) 0 ∙ rows-at w f d rows (λ k l. h (suc k) (omega arith)) i j (omega arith) hj)
 
 -- ---- a table that holds words, otherwise zero
-abbrev zeros : ℕ → List ℕ
+-- the first n words set to zero
+pub holding-none : (n : ℕ) (l : List ℕ) → replicate n 0 ++ drop n l ≡ holding n [] l
+unfolding holding padded
+holding-none n l = let e : n ≡ n - 0 = omega arith in ap (λ (k : ℕ). replicate k 0 ++ drop n l) e
+
+abbrev pub zeros : ℕ → List ℕ
 zeros n = replicate n 0
 
-zeros-length : (n : ℕ) → length (zeros n) ≡ n
+pub zeros-length : (n : ℕ) → length (zeros n) ≡ n
 zeros-length n = length-replicate n 0
 
 module _ (n : ℕ) (ws lent : List ℕ) where
   -- the words, the zeros, and what was lent
-  flat : holding n ws lent ≡ ws ++ (zeros (n - length ws) ++ drop n lent)
+  pub flat : holding n ws lent ≡ ws ++ (zeros (n - length ws) ++ drop n lent)
   unfolding holding padded
   flat = append-assoc ws (zeros (n - length ws)) (drop n lent)
 
@@ -69,7 +74,7 @@ module _ (n : ℕ) (ws lent : List ℕ) where
       ∙ List·getD-append (zeros (n - length ws)) (drop n lent) 0 (k - length ws) m
       ∙ getD-replicate {A = ℕ} (n - length ws) (k - length ws) 0 0 (omega arith)
 
-  padded-length : length ws ≤ n → length (padded n ws) ≡ n
+  pub padded-length : length ws ≤ n → length (padded n ws) ≡ n
   unfolding padded
   padded-length l = length-append ws (zeros (n - length ws)) ∙ omega (arith, zeros-length (n - length ws))
 
@@ -80,6 +85,11 @@ module _ (n : ℕ) (ws lent : List ℕ) where
   pub holding-length : length ws ≤ n → n ≤ length lent → length (holding n ws lent) ≡ length lent
   unfolding holding
   holding-length l h = length-append (padded n ws) (drop n lent) ∙ omega (arith, padded-length l, length-drop n lent)
+
+  -- what a table held is gone where it holds other words
+  pub holding-over : (vs : List ℕ) → length ws ≤ n → holding n vs (holding n ws lent) ≡ holding n vs lent
+  unfolding holding
+  holding-over vs l = ap (λ (t : List ℕ). padded n vs ++ t) (holding-drop l)
 
   -- a row of words written behind those that stand
   pub holding-put : (r : List ℕ) (a b : ℕ) → length ws ≡ a → a + length r ≡ b → b ≤ n
@@ -101,6 +111,28 @@ module _ (n : ℕ) (ws lent : List ℕ) where
       ∙ ap (drop (length r)) (append-assoc (zeros (length r)) (zeros (n - length (ws ++ r))) rest)
       ∙ drop-at (zeros (length r)) (zeros (n - length (ws ++ r)) ++ rest) (length r) (zeros-length (length r)) in
       rw (t, d) (sym (append-assoc ws r (zeros (n - length (ws ++ r)) ++ rest)) ∙ sym (append-assoc (ws ++ r) (zeros (n - length (ws ++ r))) rest))
+
+  -- one word
+  pub holding-word : (w i : ℕ) → length ws ≡ i → i < n → n ≤ length lent → set (holding n ws lent) i w ≡ holding n (ws ++ (w ∷ [])) lent
+  holding-word w i e h l = set-split (holding n ws lent) i w (omega (arith, holding-length (omega arith) l)) ∙ holding-put (w ∷ []) i (suc i) e (omega arith) (omega arith)
+
+-- what a table holds depends on the words past its minimum only
+pub holding-same : (n : ℕ) (ws a b : List ℕ) → drop n a ≡ drop n b → holding n ws a ≡ holding n ws b
+unfolding holding
+holding-same n ws a b e = ap (λ (l : List ℕ). padded n ws ++ l) e
+
+pub holding-twice : (n : ℕ) (ws vs a b : List ℕ) → length vs ≤ n → b ≡ holding n vs a → holding n ws b ≡ holding n ws a
+holding-twice n ws vs a b h e = holding-same n ws b a (ap (drop n) e ∙ holding-drop n vs a h)
+
+pub holding-again : (n : ℕ) (ws a b : List ℕ) → length ws ≤ n → b ≡ holding n ws a → b ≡ holding n ws b
+holding-again n ws a b h e = e ∙ sym (holding-twice n ws ws a b h e)
+
+-- ---- cleared tables
+pub cleared : (n : ℕ) (lent t : List ℕ) → t ≡ holding n [] lent → t ≡ holding n [] t
+cleared n lent t e = holding-again n [] lent t zero-le e
+
+pub cleared-length : (n : ℕ) (lent t : List ℕ) → n ≤ length lent → t ≡ holding n [] lent → length t ≡ length lent
+cleared-length n lent t l e = ap (λ (k : List ℕ). length k) e ∙ holding-length n [] lent zero-le l
 
 -- ---- a table of rows
 module _ {A : Type 0} (w n : ℕ) (f : A → List ℕ) (d : A) (rows : List A) (lent t : List ℕ) (wide : Wide w f d rows) (e : t ≡ holding n (rows-of f rows) lent) where
