@@ -1,6 +1,10 @@
 // Prints what 01 says for a formula's text and a proof: game.qdimacs and game.mrp in the folder that it
 // is run in, or two files named as arguments.
 use libc::STDOUT_FILENO;
+use rules::limits::CLAUSE_WORDS;
+use rules::limits::LINE_WORDS;
+use rules::limits::MAP_WORDS;
+use rules::limits::PREFIX_WORDS;
 ghost use mathlib.Core.Path.{_≡_};
 ghost use lib.ListN.{length};
 ghost use Rattle.io.specs.Counts.{Counts};
@@ -51,11 +55,11 @@ fn read_named(i: usize, usual: &[u8], buf: &mut [u8]) -> usize
 
 // Prints the report of a text and a proof.
 fn show(text: &[u8], proof: &[u8]) {
-    let mut prefix = [0u32; 64];
-    let mut clauses = [0u64; 512];
-    let mut lines = [0u64; 2048];
-    let mut nodes = [0u32; 16384];
-    let mut roots = [0u32; 16384];
+    let mut prefix = [0u32; PREFIX_WORDS];
+    let mut clauses = [0u64; CLAUSE_WORDS];
+    let mut lines = [0u64; LINE_WORDS];
+    let mut nodes = [0u32; MAP_WORDS];
+    let mut roots = [0u32; MAP_WORDS];
     let mut out = report::room();
     let n = report::print(
         text,

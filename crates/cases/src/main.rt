@@ -2,6 +2,10 @@
 // equality families, and refused games. For each its name, the reply's numbers, and what is printed.
 use libc::STDOUT_FILENO;
 use rules::Reply;
+use rules::limits::CLAUSE_WORDS;
+use rules::limits::LINE_WORDS;
+use rules::limits::MAP_WORDS;
+use rules::limits::PREFIX_WORDS;
 ghost use Rattle.io.specs.Counts.{Counts};
 
 // A number behind a space.
@@ -26,8 +30,8 @@ fn line(name: &[u8], r: Reply) {
 
 // The reply of reading a text.
 fn read(name: &[u8], text: &[u8]) {
-    let mut prefix = [0u32; 64];
-    let mut clauses = [0u64; 512];
+    let mut prefix = [0u32; PREFIX_WORDS];
+    let mut clauses = [0u64; CLAUSE_WORDS];
     line(
         name,
         malintok::malintok_read(text, &mut prefix, &mut clauses),
@@ -36,11 +40,11 @@ fn read(name: &[u8], text: &[u8]) {
 
 // The reply of checking a text with a proof.
 fn answer(text: &[u8], proof: &[u8]) -> Reply {
-    let mut prefix = [0u32; 64];
-    let mut clauses = [0u64; 512];
-    let mut lines = [0u64; 2048];
-    let mut nodes = [0u32; 16384];
-    let mut roots = [0u32; 16384];
+    let mut prefix = [0u32; PREFIX_WORDS];
+    let mut clauses = [0u64; CLAUSE_WORDS];
+    let mut lines = [0u64; LINE_WORDS];
+    let mut nodes = [0u32; MAP_WORDS];
+    let mut roots = [0u32; MAP_WORDS];
     malintok::malintok_check(
         text,
         proof,
@@ -54,11 +58,11 @@ fn answer(text: &[u8], proof: &[u8]) -> Reply {
 
 // What is printed for a text and a proof.
 fn show(text: &[u8], proof: &[u8]) {
-    let mut prefix = [0u32; 64];
-    let mut clauses = [0u64; 512];
-    let mut lines = [0u64; 2048];
-    let mut nodes = [0u32; 16384];
-    let mut roots = [0u32; 16384];
+    let mut prefix = [0u32; PREFIX_WORDS];
+    let mut clauses = [0u64; CLAUSE_WORDS];
+    let mut lines = [0u64; LINE_WORDS];
+    let mut nodes = [0u32; MAP_WORDS];
+    let mut roots = [0u32; MAP_WORDS];
     let mut out = report::room();
     let n = report::print(
         text,

@@ -1,10 +1,11 @@
 // An axiom's row: the clause keeps its existential literals, and each universal gets a leaf.
 use crate::game::Game;
-use crate::limits::NO_CLAUSE;
 use crate::rows;
 use crate::rows::MapRow;
 use rules::Node;
 use rules::Value;
+use rules::limits::NO_CLAUSE;
+use rules::limits::ROW_WORDS;
 use sets::Clause;
 use sets::Set;
 ghost use mathlib.Core.Path.{_≡_};
@@ -33,8 +34,8 @@ pub fn refuse(number: u32, variable: u32) -> Made
     Made {
         clause: Clause::none(),
         row: MapRow {
-            nodes: [0; 16],
-            roots: [0; 16],
+            nodes: [0; ROW_WORDS],
+            roots: [0; ROW_WORDS],
         },
         refusal: number,
         variable,
@@ -57,12 +58,12 @@ fn falsify(clause: Clause, u: u32) -> Value
 }
 
 // The leaves at line i for the clause, one for each universal.
-fn leaf_row(universals: u32, vars: [u32; 16], clause: Clause, i: u32) -> MapRow
+fn leaf_row(universals: u32, vars: [u32; ROW_WORDS], clause: Clause, i: u32) -> MapRow
     requires { ⌜ universals ≤ universals-most ⌝ }
     ensures { λ r. ⌜ Row-of (each (leaf-entry (clause-of clause) i) (players universals vars) 0) r ⌝ }
 {
-    let mut nodes = [0u32; 16];
-    let mut roots = [0u32; 16];
+    let mut nodes = [0u32; ROW_WORDS];
+    let mut roots = [0u32; ROW_WORDS];
     let k = universals as usize;
     let mut j: usize = 0;
     while j < k {

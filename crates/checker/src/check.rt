@@ -1,9 +1,9 @@
 // The proof over a formula that the tables hold: its head, its lines, and the last clause.
 use crate::game;
-use crate::limits::NOT_EMPTY;
 use crate::rows;
 use crate::run;
 use proof::Head;
+use rules::limits::NOT_EMPTY;
 ghost use mathlib.Core.Path.{_≡_};
 ghost use Prim.Native.Nat.{_≤_};
 ghost use lib.ListN.{length};

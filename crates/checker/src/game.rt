@@ -1,7 +1,8 @@
 // What checking asks of a formula that is read: its counts, its existential variables, and for each
 // universal its variable and the set of the variables left of it.
-use crate::limits::PREFIX_WORDS;
-use crate::limits::UNIVERSAL_MARK;
+use rules::limits::PREFIX_WORDS;
+use rules::limits::ROW_WORDS;
+use rules::limits::UNIVERSAL_MARK;
 use sets::Set;
 ghost use mathlib.Core.Path.{_≡_};
 ghost use Prim.Native.Nat.{ℕ, _≤_, _<_};
@@ -25,8 +26,8 @@ pub struct Game {
     pub count: u32,
     pub universals: u32,
     pub existentials: Set,
-    pub vars: [u32; 16],
-    pub left: [Set; 16],
+    pub vars: [u32; ROW_WORDS],
+    pub left: [Set; ROW_WORDS],
     pub bound: Set,
 }
 
@@ -68,8 +69,8 @@ impl Game {
             count,
             universals: 0,
             existentials,
-            vars: [0; 16],
-            left: [Set::none(); 16],
+            vars: [0; ROW_WORDS],
+            left: [Set::none(); ROW_WORDS],
             bound: Set::none(),
         }
     }

@@ -2,7 +2,6 @@
 pub mod axioms;
 pub mod check;
 pub mod game;
-mod limits;
 pub mod lines;
 pub mod maps_row;
 pub mod resolutions;

@@ -1,12 +1,13 @@
 // A resolution's maps: for each universal in order its node and its root, or the first refusal.
 use crate::game::Game;
-use crate::limits::NO_SELECT;
-use crate::limits::NOT_LEFT;
 use crate::rows::MapRow;
 use crate::select;
 use crate::select::Selected;
 use rules::Node;
 use rules::Resolution;
+use rules::limits::NO_SELECT;
+use rules::limits::NOT_LEFT;
+use rules::limits::ROW_WORDS;
 use sets::Set;
 ghost use mathlib.Core.Path.{_≡_};
 ghost use mathlib.Core.Bool.{not};
@@ -61,7 +62,7 @@ fn root_of(roots: &[u32], j: usize, line: u32) -> u32
     requires { ⌜ Place (now roots) j line ⌝ }
     ensures { λ r. ⌜ r ≡ root-word (now (roots .entry)) j line ⌝ }
 {
-    let k = 16 * (line - 1) as usize + j;
+    let k = ROW_WORDS * (line - 1) as usize + j;
     roots[k]
 }
 
@@ -127,8 +128,8 @@ pub fn resolution_maps(g: Game, nodes: &[u32], roots: &[u32], r: Resolution, i: 
     let vars = g.vars;
     let left = g.left;
     let k = g.universals as usize;
-    let mut node_row = [0u32; 16];
-    let mut root_row = [0u32; 16];
+    let mut node_row = [0u32; ROW_WORDS];
+    let mut root_row = [0u32; ROW_WORDS];
     let mut j: usize = 0;
     while j < k {
         let s = left[j];
@@ -136,8 +137,8 @@ pub fn resolution_maps(g: Game, nodes: &[u32], roots: &[u32], r: Resolution, i: 
         if e.refusal != 0 {
             return MapsMade {
                 row: MapRow {
-                    nodes: [0; 16],
-                    roots: [0; 16],
+                    nodes: [0; ROW_WORDS],
+                    roots: [0; ROW_WORDS],
                 },
                 refusal: e.refusal,
                 variable: vars[j],

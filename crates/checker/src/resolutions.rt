@@ -1,12 +1,12 @@
 // A resolution's clause, by the rules 24 to 29 in their order.
-use crate::limits::LACKS_NEGATED;
-use crate::limits::LACKS_PLAIN;
-use crate::limits::NO_PARENT;
-use crate::limits::NO_PIVOT;
-use crate::limits::NO_UNIVERSAL;
-use crate::limits::RESULT_BOTH_WAYS;
 use crate::rows;
 use rules::Resolution;
+use rules::limits::LACKS_NEGATED;
+use rules::limits::LACKS_PLAIN;
+use rules::limits::NO_PARENT;
+use rules::limits::NO_PIVOT;
+use rules::limits::NO_UNIVERSAL;
+use rules::limits::RESULT_BOTH_WAYS;
 use sets::Clause;
 use sets::Set;
 ghost use mathlib.Core.Path.{_≡_};

@@ -1,4 +1,5 @@
 // A line's row in the tables: its clause, and a node word and a root for each universal.
+use rules::limits::ROW_WORDS;
 use sets::Clause;
 ghost use mathlib.Core.Path.{_≡_};
 ghost use Prim.Native.Nat.{_*_, _≤_};
@@ -9,16 +10,16 @@ ghost use Rattle.checker.specs.Rows.{clause-part};
 
 // A place for each of 16 universals, unused places zero.
 pub struct MapRow {
-    pub nodes: [u32; 16],
-    pub roots: [u32; 16],
+    pub nodes: [u32; ROW_WORDS],
+    pub roots: [u32; ROW_WORDS],
 }
 
 // The row that is lent becomes the words of `words`.
-fn copy_row(row: &mut [u32], words: [u32; 16])
+fn copy_row(row: &mut [u32], words: [u32; ROW_WORDS])
     requires { ⌜ length (now row) ≡ universals-most ⌝ }
     ensures { λ _. ⌜ now (row .exit) ≡ words ⌝ }
 {
-    for j in 0..16 {
+    for j in 0..ROW_WORDS {
         row[j] = words[j];
     }
 }

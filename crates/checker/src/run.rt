@@ -1,12 +1,12 @@
 // All lines in order: each made after the rows before it, and written into its row.
 use crate::axioms::Made;
 use crate::game::Game;
-use crate::limits::HEAD_BYTES;
-use crate::limits::RECORD_BYTES;
-use crate::limits::UNIVERSALS_MOST;
 use crate::lines as line;
 use crate::rows;
 use crate::rows::MapRow;
+use rules::limits::HEAD_BYTES;
+use rules::limits::RECORD_BYTES;
+use rules::limits::ROW_WORDS;
 use sets::Clause;
 ghost use mathlib.Core.Path.{_≡_};
 ghost use mathlib.Core.List.{[]};
@@ -53,8 +53,8 @@ fn put_line(
     let s = i * w;
     let t = s + w;
     clause.write(&mut lines[s..t]);
-    let a = i * UNIVERSALS_MOST;
-    let e = a + UNIVERSALS_MOST;
+    let a = i * ROW_WORDS;
+    let e = a + ROW_WORDS;
     rows::write_row(&mut nodes[a..e], &mut roots[a..e], row);
 }
 

@@ -1,4 +1,5 @@
 // Select: which of two roots of a column a resolution keeps for a universal outside its merge set.
+use rules::limits::ROW_WORDS;
 ghost use mathlib.Core.Path.{_≡_};
 ghost use Prim.Native.Nat.{_+_};
 ghost use Rattle.rules.specs.Maps.{star?};
@@ -18,7 +19,7 @@ fn star_at(nodes: &[u32], column: usize, at: u32) -> bool
     requires { ⌜ Place (now nodes) column at ⌝ }
     ensures { λ r. ⌜ r ≡ star? (table-column (now (nodes .entry)) (column + 1) at) ⌝ }
 {
-    let i = (at - 1) as usize * 16 + column;
+    let i = (at - 1) as usize * ROW_WORDS + column;
     maps::star_leaf(nodes[i])
 }
 

@@ -1,5 +1,4 @@
 // Formula text (01) to the prefix table and the clause table.
-mod limits;
 mod numbers;
 pub mod reading;
 mod states;

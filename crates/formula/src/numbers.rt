@@ -1,6 +1,6 @@
 // A token as a signed number, or the refusal with the token's offset; a number as variable and polarity.
-use crate::limits::BAD_TOKEN;
-use crate::limits::NUMBER_MOST;
+use rules::limits::BAD_TOKEN;
+use rules::limits::NUMBER_MOST;
 ghost use mathlib.Core.Path.{_≡_};
 ghost use mathlib.Core.Bool.{true, false, cond};
 ghost use Prim.Native.Nat.{_+_, _≤_, _<_};

@@ -1,8 +1,4 @@
 // A whole text: its tokens in order, and what goes to the prefix table and the clause table.
-use crate::limits::BAD_TOKEN;
-use crate::limits::CLAUSE_COUNT;
-use crate::limits::CLAUSE_WORDS;
-use crate::limits::PREFIX_WORDS;
 use crate::states::Next;
 use crate::states::Place;
 use crate::states::State;
@@ -13,6 +9,10 @@ use crate::tables::clear_wide;
 use crate::words::body;
 use crate::words::skip;
 use crate::words::word_end;
+use rules::limits::BAD_TOKEN;
+use rules::limits::CLAUSE_COUNT;
+use rules::limits::CLAUSE_WORDS;
+use rules::limits::PREFIX_WORDS;
 use sets::Clause;
 ghost use mathlib.Core.Path.{_≡_};
 ghost use mathlib.Core.Bool.{false};

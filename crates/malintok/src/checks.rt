@@ -8,6 +8,10 @@ use formula::reading::read_in;
 use formula::tables::clear;
 use formula::tables::clear_wide;
 use rules::Reply;
+use rules::limits::CLAUSE_WORDS;
+use rules::limits::LINE_WORDS;
+use rules::limits::MAP_WORDS;
+use rules::limits::PREFIX_WORDS;
 ghost use mathlib.Core.Path.{_≡_};
 ghost use mathlib.Core.List.{[]};
 ghost use Prim.Native.Nat.{_≤_};
@@ -25,9 +29,9 @@ fn clear_maps(lines: &mut [u64], nodes: &mut [u32], roots: &mut [u32])
     requires { ⌜ (line-words ≤ length (now lines)) × (map-words ≤ length (now nodes)) × (map-words ≤ length (now roots)) ⌝ }
     ensures { λ _. ⌜ (now (lines .exit) ≡ holding line-words [] (now (lines .entry))) × (now (nodes .exit) ≡ holding map-words [] (now (nodes .entry))) × (now (roots .exit) ≡ holding map-words [] (now (roots .entry))) ⌝ }
 {
-    clear_wide(&mut lines[..], 2048);
-    clear(&mut nodes[..], 16384);
-    clear(&mut roots[..], 16384);
+    clear_wide(&mut lines[..], LINE_WORDS);
+    clear(&mut nodes[..], MAP_WORDS);
+    clear(&mut roots[..], MAP_WORDS);
 }
 
 // The prefix and clause tables, cleared.
@@ -35,8 +39,8 @@ fn clear_formula(prefix: &mut [u32], clauses: &mut [u64])
     requires { ⌜ (prefix-words ≤ length (now prefix)) × (clause-words ≤ length (now clauses)) ⌝ }
     ensures { λ _. ⌜ (now (prefix .exit) ≡ holding prefix-words [] (now (prefix .entry))) × (now (clauses .exit) ≡ holding clause-words [] (now (clauses .entry))) ⌝ }
 {
-    clear(&mut prefix[..], 64);
-    clear_wide(&mut clauses[..], 512);
+    clear(&mut prefix[..], PREFIX_WORDS);
+    clear_wide(&mut clauses[..], CLAUSE_WORDS);
 }
 
 // The proof, after its formula was read into the first two tables and the others were cleared.

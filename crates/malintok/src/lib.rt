@@ -7,6 +7,13 @@ use crate::replies::read_reply;
 use crate::replies::rejected;
 use rules::Played;
 use rules::Reply;
+use rules::limits::CLAUSE_WORDS;
+use rules::limits::LINE_WORDS;
+use rules::limits::LONG_TEXT;
+use rules::limits::MAP_WORDS;
+use rules::limits::PREFIX_WORDS;
+use rules::limits::SHORT_TABLE;
+use rules::limits::TEXT_MOST;
 use sets::Set;
 ghost use Rattle.rules.specs.Services.{Lent};
 ghost use Rattle.malintok.specs.Calls.{Read-call, Check-call, Play-call};
@@ -16,14 +23,14 @@ ghost use Rattle.malintok.specs.Calls.{Read-call, Check-call, Play-call}
 pub extern "C" fn malintok_read(text: &[u8], prefix: &mut [u32], clauses: &mut [u64]) -> Reply
     ensures { λ r. ⌜ Read-call (now (text .entry)) (now (prefix .entry)) (now (clauses .entry)) r (now (prefix .exit)) (now (clauses .exit)) ⌝ }
 {
-    if prefix.len() < 64 {
-        return rejected(2, 0, 0);
+    if prefix.len() < PREFIX_WORDS {
+        return rejected(SHORT_TABLE, 0, 0);
     }
-    if clauses.len() < 512 {
-        return rejected(2, 0, 0);
+    if clauses.len() < CLAUSE_WORDS {
+        return rejected(SHORT_TABLE, 0, 0);
     }
-    if 65536 < text.len() {
-        return rejected(1, 0, 0);
+    if TEXT_MOST < text.len() {
+        return rejected(LONG_TEXT, 0, 0);
     }
     read_reply(formula::reading::read_in(text, prefix, clauses))
 }
@@ -41,23 +48,23 @@ pub extern "C" fn malintok_check(
 ) -> Reply
     ensures { λ r. ⌜ Check-call (now (text .entry)) (now (proof .entry)) (record { prefix = now (prefix .entry); clauses = now (clauses .entry); lines = now (lines .entry); nodes = now (nodes .entry); roots = now (roots .entry) }) r (now (prefix .exit)) (now (clauses .exit)) (now (lines .exit)) (now (nodes .exit)) (now (roots .exit)) ⌝ }
 {
-    if prefix.len() < 64 {
-        return rejected(2, 0, 0);
+    if prefix.len() < PREFIX_WORDS {
+        return rejected(SHORT_TABLE, 0, 0);
     }
-    if clauses.len() < 512 {
-        return rejected(2, 0, 0);
+    if clauses.len() < CLAUSE_WORDS {
+        return rejected(SHORT_TABLE, 0, 0);
     }
-    if lines.len() < 2048 {
-        return rejected(2, 0, 0);
+    if lines.len() < LINE_WORDS {
+        return rejected(SHORT_TABLE, 0, 0);
     }
-    if nodes.len() < 16384 {
-        return rejected(2, 0, 0);
+    if nodes.len() < MAP_WORDS {
+        return rejected(SHORT_TABLE, 0, 0);
     }
-    if roots.len() < 16384 {
-        return rejected(2, 0, 0);
+    if roots.len() < MAP_WORDS {
+        return rejected(SHORT_TABLE, 0, 0);
     }
-    if 65536 < text.len() {
-        return rejected(1, 0, 0);
+    if TEXT_MOST < text.len() {
+        return rejected(LONG_TEXT, 0, 0);
     }
     check_in(text, proof, prefix, clauses, lines, nodes, roots)
 }

@@ -3,6 +3,20 @@
 use rules::Node;
 use rules::Played;
 use rules::Value;
+use rules::limits::BRANCH_END;
+use rules::limits::BRANCH_MARK;
+use rules::limits::END_STEP;
+use rules::limits::LINE_PLACES;
+use rules::limits::LINES_MOST;
+use rules::limits::MAP_WORDS;
+use rules::limits::ONE_WORD;
+use rules::limits::PLAY_RANGE;
+use rules::limits::PLAY_WORD;
+use rules::limits::ROW_WORDS;
+use rules::limits::STAR_WORD;
+use rules::limits::UNIVERSALS_MOST;
+use rules::limits::VARIABLE_STEP;
+use rules::limits::ZERO_WORD;
 use sets::Set;
 ghost use mathlib.Core.Path.{_≡_};
 ghost use mathlib.Core.Bool.{true};
@@ -20,26 +34,26 @@ ghost use Rattle.maps.specs.Comparing.{held, Partners, Stands, leaf-with
 pub fn read_node(word: u32) -> Node
     ensures { λ r. ⌜ (r ≡ node-of word) × In-range r ⌝ }
 {
-    if word == 1 {
+    if word == STAR_WORD {
         return Node::Leaf(Value::Star);
     }
-    if word == 2 {
+    if word == ONE_WORD {
         return Node::Leaf(Value::One);
     }
-    if word == 3 {
+    if word == ZERO_WORD {
         return Node::Leaf(Value::Zero);
     }
-    if word < 1073741824 {
+    if word < BRANCH_MARK {
         return Node::None;
     }
-    if 1140850688 <= word {
+    if BRANCH_END <= word {
         return Node::None;
     }
-    let w = word - 1073741824;
+    let w = word - BRANCH_MARK;
     Node::Branch {
-        x: w / 1048576 + 1,
-        a: w / 1024 % 1024 + 1,
-        b: w % 1024 + 1,
+        x: w / VARIABLE_STEP + 1,
+        a: w / END_STEP % END_STEP + 1,
+        b: w % END_STEP + 1,
     }
 }
 
@@ -48,9 +62,9 @@ pub fn value_word(v: Value) -> u32
     ensures { λ r. ⌜ r ≡ value-word v ⌝ }
 {
     match v {
-        Value::Star => 1,
-        Value::One => 2,
-        Value::Zero => 3,
+        Value::Star => STAR_WORD,
+        Value::One => ONE_WORD,
+        Value::Zero => ZERO_WORD,
     }
 }
 
@@ -62,7 +76,10 @@ pub fn node_word(n: Node) -> u32
     match n {
         Node::None => 0,
         Node::Leaf(v) => value_word(v),
-        Node::Branch { x, a, b } => 1073741824 + (x - 1) * 1048576 + (a - 1) * 1024 + (b - 1),
+        Node::Branch { x, a, b } => BRANCH_MARK
+            + (x - 1) * VARIABLE_STEP
+            + (a - 1) * END_STEP
+            + (b - 1),
     }
 }
 
@@ -70,7 +87,7 @@ pub fn node_word(n: Node) -> u32
 pub fn star_leaf(word: u32) -> bool
     ensures { λ r. ⌜ r ≡ star? (node-of word) ⌝ }
 {
-    word == 1
+    word == STAR_WORD
 }
 
 // Node `at` of a column.
@@ -78,7 +95,7 @@ pub fn node_at(nodes: &[u32], column: usize, at: u32) -> Node
     requires { ⌜ Place (now nodes) column at ⌝ }
     ensures { λ r. ⌜ (r ≡ table-column (now (nodes .entry)) (column + 1) at) × In-range r ⌝ }
 {
-    let i = (at - 1) as usize * 16 + column;
+    let i = (at - 1) as usize * ROW_WORDS + column;
     read_node(nodes[i])
 }
 
@@ -138,31 +155,31 @@ pub fn play(column: u32, root: u32, nodes: &[u32], settings: Set) -> Played
 {
     if column == 0 {
         return Played {
-            number: 41,
+            number: PLAY_RANGE,
             value: 0,
         };
     }
-    if 16 < column {
+    if UNIVERSALS_MOST < column {
         return Played {
-            number: 41,
+            number: PLAY_RANGE,
             value: 0,
         };
     }
     if root == 0 {
         return Played {
-            number: 41,
+            number: PLAY_RANGE,
             value: 0,
         };
     }
-    if 1024 < root {
+    if LINES_MOST < root {
         return Played {
-            number: 41,
+            number: PLAY_RANGE,
             value: 0,
         };
     }
-    if nodes.len() < 16384 {
+    if nodes.len() < MAP_WORDS {
         return Played {
-            number: 41,
+            number: PLAY_RANGE,
             value: 0,
         };
     }
@@ -173,14 +190,14 @@ pub fn play(column: u32, root: u32, nodes: &[u32], settings: Set) -> Played
             value: value_word(v),
         },
         Outcome::Broken => Played {
-            number: 42,
+            number: PLAY_WORD,
             value: 0,
         },
     }
 }
 
 // Makes nodes a and c partners if neither has one: true where they are partners now.
-fn pair_up(to: &mut [u16; 1024], from: &mut [u16; 1024], a: u32, c: u32) -> bool
+fn pair_up(to: &mut [u16; LINE_PLACES], from: &mut [u16; LINE_PLACES], a: u32, c: u32) -> bool
     requires { ⌜ Partners (now to) (now from) × ((1 ≤ a) × (a ≤ lines-most)) × ((1 ≤ c) × (c ≤ lines-most)) ⌝ }
     ensures { λ r. ⌜ Stands (pair (held true (now (to .entry)) (now (from .entry))) a c) r (now (to .exit)) (now (from .exit)) ⌝ }
 {
@@ -232,7 +249,12 @@ fn same_leaf(v: Value, n: Node) -> bool
 }
 
 // Two partners: leaves agree; branches have the same variable, and their ends become partners.
-fn compare_nodes(to: &mut [u16; 1024], from: &mut [u16; 1024], m: Node, n: Node) -> bool
+fn compare_nodes(
+    to: &mut [u16; LINE_PLACES],
+    from: &mut [u16; LINE_PLACES],
+    m: Node,
+    n: Node,
+) -> bool
     requires { ⌜ Partners (now to) (now from) × In-range m × In-range n ⌝ }
     ensures { λ r. ⌜ Stands (compare (held true (now (to .entry)) (now (from .entry))) m n) r (now (to .exit)) (now (from .exit)) ⌝ }
 {
@@ -257,8 +279,8 @@ fn compare_nodes(to: &mut [u16; 1024], from: &mut [u16; 1024], m: Node, n: Node)
 
 // Node i, if it has a partner: the two are compared.
 fn visit_node(
-    to: &mut [u16; 1024],
-    from: &mut [u16; 1024],
+    to: &mut [u16; LINE_PLACES],
+    from: &mut [u16; LINE_PLACES],
     nodes: &[u32],
     column: usize,
     i: u32,
@@ -278,8 +300,8 @@ fn visit_node(
 
 // The nodes from `top` down to 1, each visited: true where no pair clashed.
 fn pass_down(
-    to: &mut [u16; 1024],
-    from: &mut [u16; 1024],
+    to: &mut [u16; LINE_PLACES],
+    from: &mut [u16; LINE_PLACES],
     nodes: &[u32],
     column: usize,
     top: u32,
@@ -302,8 +324,8 @@ pub fn isomorphic(nodes: &[u32], column: usize, r: u32, t: u32) -> bool
     requires { ⌜ Place (now nodes) column r × Place (now nodes) column t ⌝ }
     ensures { λ o. ⌜ o ≡ isomorphic (table-column (now (nodes .entry)) (column + 1)) r (table-column (now (nodes .entry)) (column + 1)) t ⌝ }
 {
-    let mut to = [0u16; 1024];
-    let mut from = [0u16; 1024];
+    let mut to = [0u16; LINE_PLACES];
+    let mut from = [0u16; LINE_PLACES];
     if !pair_up(&mut to, &mut from, r, t) {
         return false;
     }

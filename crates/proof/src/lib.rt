@@ -2,23 +2,26 @@
 use rules::Decoded;
 use rules::Line;
 use rules::Resolution;
+use rules::limits::AXIOM_KIND;
+use rules::limits::AXIOM_TAIL;
+use rules::limits::BAD_KIND;
+use rules::limits::BAD_LENGTH;
+use rules::limits::BAD_LINE_COUNT;
+use rules::limits::BAD_MARK;
+use rules::limits::HEAD_BYTES;
+use rules::limits::LINE_PLACES;
+use rules::limits::MARK_M;
+use rules::limits::MARK_P;
+use rules::limits::MARK_R;
+use rules::limits::RECORD_BYTES;
+use rules::limits::RESOLUTION_KIND;
+use rules::limits::VERSION;
 ghost use mathlib.Core.Path.{_≡_};
 ghost use mathlib.Core.Bool.{not};
 ghost use Prim.Native.Nat.{ℕ, _+_, _<_};
 ghost use lib.ListN.{length};
 ghost use Rattle.rules.specs.File.{pair-at, bare-tail, decoded};
 ghost use Rattle.proof.specs.Head.{unmarked, head-of};
-
-// Refusal numbers.
-const BAD_MARK: u32 = 11;
-
-const BAD_LENGTH: u32 = 12;
-
-const BAD_LINE_COUNT: u32 = 13;
-
-const BAD_KIND: u32 = 21;
-
-const AXIOM_TAIL: u32 = 22;
 
 // The head as examined: the number of the refusal, or the line count.
 pub enum Head {
@@ -70,13 +73,13 @@ pub fn decode(rec: &[u8]) -> Decoded
     ensures { λ r. ⌜ r ≡ decoded (now (rec .entry)) ⌝ }
 {
     let kind = rec[0];
-    if kind == 1 {
+    if kind == AXIOM_KIND {
         if bare(rec) {
             return Decoded::Line(Line::Axiom(pair(rec, 1)));
         }
         return Decoded::Refused(AXIOM_TAIL);
     }
-    if kind == 2 {
+    if kind == RESOLUTION_KIND {
         return Decoded::Line(Line::Resolve(Resolution {
             a: pair(rec, 1),
             b: pair(rec, 3),
@@ -91,19 +94,19 @@ pub fn decode(rec: &[u8]) -> Decoded
 fn marked(proof: &[u8]) -> bool
     ensures { λ r. ⌜ not r ≡ unmarked (now (proof .entry)) ⌝ }
 {
-    if proof.len() < 7 {
+    if proof.len() < HEAD_BYTES {
         return false;
     }
-    if proof[0] != 77 {
+    if proof[0] != MARK_M {
         return false;
     }
-    if proof[1] != 82 {
+    if proof[1] != MARK_R {
         return false;
     }
-    if proof[2] != 80 {
+    if proof[2] != MARK_P {
         return false;
     }
-    if pair(proof, 3) != 1 {
+    if pair(proof, 3) != VERSION {
         return false;
     }
     true
@@ -117,13 +120,13 @@ pub fn read_head(proof: &[u8]) -> Head
         return Head::Fault(BAD_MARK);
     }
     let n = pair(proof, 5) as usize;
-    if proof.len() != 7 + 8 * n {
+    if proof.len() != HEAD_BYTES + RECORD_BYTES * n {
         return Head::Fault(BAD_LENGTH);
     }
     if n < 1 {
         return Head::Fault(BAD_LINE_COUNT);
     }
-    if 1024 < n {
+    if LINE_PLACES < n {
         return Head::Fault(BAD_LINE_COUNT);
     }
     Head::Lines(n as u32)

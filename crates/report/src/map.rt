@@ -2,6 +2,7 @@
 use crate::lines::put_map_head;
 use crate::nodes::put_node_line;
 use rules::Node;
+use rules::limits::LINE_PLACES;
 ghost use mathlib.Core.Path.{_≡_};
 ghost use Prim.Native.Nat.{_+_, _*_, _≤_, _<_};
 ghost use lib.ListN.{length};
@@ -32,7 +33,7 @@ fn put_nodes(nodes: &[u32], column: usize, root: u32, out: &mut [u8], at: usize)
     requires { ⌜ (Place (now nodes) column root) × (at + 57 * root ≤ length (now out)) ⌝ }
     ensures { λ r. ⌜ (Appended (now (out .entry)) (now (out .exit)) at r (joined (node-line (table-column (now (nodes .entry)) (column + 1))) (nodes-falling (table-column (now (nodes .entry)) (column + 1)) root))) × (r ≤ at + 57 * root) ⌝ }
 {
-    let mut marks = [0u8; 1024];
+    let mut marks = [0u8; LINE_PLACES];
     marks[(root - 1) as usize] = 1;
     let mut next = at;
     let mut i = root;

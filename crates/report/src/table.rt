@@ -1,5 +1,8 @@
 // The last line's maps, by universal number, from the tables.
 use crate::map::put_map;
+use rules::limits::PREFIX_WORDS;
+use rules::limits::ROW_WORDS;
+use rules::limits::UNIVERSAL_MARK;
 ghost use Prim.Native.Nat.{_+_, _≤_, _<_};
 ghost use lib.ListN.{length, take};
 ghost use Rattle.report.specs.Written.{Appended};
@@ -17,16 +20,16 @@ pub fn put_maps(
     requires { ⌜ (Printable (now prefix) (now nodes) (now roots) lines) × (at + 934384 ≤ length (now out)) ⌝ }
     ensures { λ r. ⌜ Appended (now (out .entry)) (now (out .exit)) at r (word-maps (now (nodes .entry)) (now (roots .entry)) lines (take 64 (now (prefix .entry))) 0) ⌝ }
 {
-    let row = (lines - 1) as usize * 16;
+    let row = (lines - 1) as usize * ROW_WORDS;
     let mut next = at;
     let mut j = 0;
     let mut k = 0;
-    while k < 64 {
+    while k < PREFIX_WORDS {
         let word = prefix[k];
         k += 1;
-        if 256 < word {
+        if UNIVERSAL_MARK < word {
             let root = roots[row + j];
-            next = put_map(nodes, j, root, word - 256, &mut out[..], next);
+            next = put_map(nodes, j, root, word - UNIVERSAL_MARK, &mut out[..], next);
             j += 1;
         }
     }

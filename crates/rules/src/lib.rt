@@ -1,5 +1,6 @@
 // The types of documents 01 and 004 that definitions and code share. The definitions are in specs/;
 // there is no code here.
+pub mod limits;
 
 // What a map plays: no value, 1 or 0.
 pub enum Value {

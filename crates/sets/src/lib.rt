@@ -1,4 +1,5 @@
 // Sets of variables and clauses, by value. How many words a set has is known to the methods of Set alone.
+use rules::limits::VARIABLES_MOST;
 ghost use mathlib.Core.Path.{_≡_};
 ghost use Prim.Native.Nat.{_+_, _*_, _≤_};
 ghost use lib.ListN.{length, take, drop};
@@ -36,7 +37,7 @@ impl Set {
         if v == 0 {
             return false;
         }
-        if 64 < v {
+        if VARIABLES_MOST < v {
             return false;
         }
         (self.word >> (v - 1)) & 1 == 1
