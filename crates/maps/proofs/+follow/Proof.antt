@@ -23,83 +23,42 @@ follow-at t = and 1 follow-kinds.ps (is 1 follow-kinds.ps μ-follow t) follow.Pr
 abbrev follow-below : ℕ → In 1 follow-kinds.ps
 follow-below t = and 1 follow-kinds.ps (falls 1 follow-kinds.ps _<_ μ-follow t) follow.Pre
 
-follow-step-requires : (t : ℕ) → follow-lts.Need-step-requires (
-  step-reads.Asked,
-  step-reads.Learnt,
-  follow-below t,
-  follow.Post,
-) (follow-at t) follow.Post
+-- what is known of the functions that it calls
+abbrev calls : ℕ → follow-lts.Claims
+calls t = (step-reads.Asked, step-reads.Learnt, follow-below t, follow.Post)
+
+follow-step-requires : (t : ℕ) → follow-lts.Need-step-requires (calls t) (follow-at t) follow.Post
 follow-step-requires t c κs = c .before .pre .1
 
-follow-enum-known-n : (t : ℕ) → follow-lts.Need-enum-known-n (
-  step-reads.Asked,
-  step-reads.Learnt,
-  follow-below t,
-  follow.Post,
-) (follow-at t) follow.Post
+follow-enum-known-n : (t : ℕ) → follow-lts.Need-enum-known-n (calls t) (follow-at t) follow.Post
 follow-enum-known-n t c = search needs
 
-follow-enum-told : (t : ℕ) → follow-lts.Need-enum-told (
-  step-reads.Asked,
-  step-reads.Learnt,
-  follow-below t,
-  follow.Post,
-) (follow-at t) follow.Post
+follow-enum-told : (t : ℕ) → follow-lts.Need-enum-told (calls t) (follow-at t) follow.Post
 follow-enum-told t c = search needs
 
-follow-enum-known-n-2 : (t : ℕ) → follow-lts.Need-enum-known-n-2 (
-  step-reads.Asked,
-  step-reads.Learnt,
-  follow-below t,
-  follow.Post,
-) (follow-at t) follow.Post
+follow-enum-known-n-2 : (t : ℕ) → follow-lts.Need-enum-known-n-2 (calls t) (follow-at t) follow.Post
 follow-enum-known-n-2 t c = search needs
 
-follow-follow-requires : (t : ℕ) → follow-lts.Need-follow-requires (
-  step-reads.Asked,
-  step-reads.Learnt,
-  follow-below t,
-  follow.Post,
-) (follow-at t) follow.Post
+follow-follow-requires : (t : ℕ) → follow-lts.Need-follow-requires (calls t) (follow-at t) follow.Post
 follow-follow-requires t c κs =
     let s = c .before .before .before .before .before in
     let d = subst (down (s .args .at)) (c .before .n2 .given .1) (c .before .before .before .step .ensures .1) in
     (omega (arith, d .1, s .pre .0), record { column = s .pre .1 .column; from = d .0; most = omega (arith, d .1, s .pre .1 .most); long = s .pre .1 .long })
 
-follow-returns : (t : ℕ) → follow-lts.Need-returns (
-  step-reads.Asked,
-  step-reads.Learnt,
-  follow-below t,
-  follow.Post,
-) (follow-at t) follow.Post
+follow-returns : (t : ℕ) → follow-lts.Need-returns (calls t) (follow-at t) follow.Post
 follow-returns t c =
     sym (walk-led _ _ _ _ (sym (c .before .before .before .step .ensures .0) ∙ c .before .n .given .1))
 
-follow-returns-2 : (t : ℕ) → follow-lts.Need-returns-2 (
-  step-reads.Asked,
-  step-reads.Learnt,
-  follow-below t,
-  follow.Post,
-) (follow-at t) follow.Post
+follow-returns-2 : (t : ℕ) → follow-lts.Need-returns-2 (calls t) (follow-at t) follow.Post
 follow-returns-2 t c =
     sym (walk-led _ _ _ _ (sym (c .before .before .step .ensures .0) ∙ c .enum-told .given .1))
 
-follow-returns-3 : (t : ℕ) → follow-lts.Need-returns-3 (
-  step-reads.Asked,
-  step-reads.Learnt,
-  follow-below t,
-  follow.Post,
-) (follow-at t) follow.Post
+follow-returns-3 : (t : ℕ) → follow-lts.Need-returns-3 (calls t) (follow-at t) follow.Post
 follow-returns-3 t c =
     c .follow .ensures ∙ sym (walk-led _ _ _ _ (sym (c .before .before .before .before .step .ensures .0) ∙ c .before .before .n2 .given .1))
 
 pub +follow-spec : {M : Type 1} → statement M
-+follow-spec = close μ-follow λ t. follow-lts.spec (
-  step-reads.Asked,
-  step-reads.Learnt,
-  follow-below t,
-  follow.Post,
-)
++follow-spec = close μ-follow λ t. follow-lts.spec (calls t)
     (follow-at t)
     follow.Post
     (follow-step-requires t)
