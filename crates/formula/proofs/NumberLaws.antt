@@ -1,12 +1,12 @@
 -- Signed numbers, and the number that a token spells, digit by digit.
 use mathlib.Core.Path.{_≡_, refl, ap, subst}
-use mathlib.Core.Bool.{Bool, true, false, cond, _&&_, true≢false}
+use mathlib.Core.Bool.{Bool, true, false, cond, _&&_, true≢false, false≢true}
 use mathlib.Core.List.{List, [], _∷_}
 use Prim.Native.Nat.{ℕ, zero, suc, _+_, _-_, _*_, _<_, _≤_, zero-le}
 use native.Mathlib.Nat.{le-refl, not-suc-le-zero}
 use native.Mathlib.Numerals.{add-one}
 use native.Mathlib.Omega.{arith}
-use borrow.Author.Tests.{ltb-true, leb-true, leb-false, eq-eqb, ne-eqb, le-leb, lt-leb}
+use borrow.Author.Tests.{ltb-true, leb-true, leb-false, eq-eqb, ne-eqb, le-leb, lt-leb, lt-ltb, le-ltb}
 use lib.Dec as dec
 use lib.Dec.{eqb, leb}
 use lib.IntN.{ℤ, pos, negsuc, negℤ, natAbs, _-ℤ_, +ℤ-idl}
@@ -16,13 +16,15 @@ use lib.Seq.{drop-cons}
 use mir.Facts.{toZ-ofZ}
 use mir.Syntax.{w32}
 use mir.Val.{Fits, SFits, toZ, ofZ}
-use Rattle.rules.specs.Limits.{number-most}
+use Rattle.rules.specs.Limits.{number-most, bad-token, header-limit}
 use Rattle.rules.specs.Text.{Number, digit, minus, grown, sized, counting, number-of}
 use Rattle.rules.specs.Text.Number.{number, no-number}
 use Rattle.formula.specs.declared.numbers.Literal.{Literal}
 use Rattle.formula.specs.declared.numbers.Token.{Token}
 use Rattle.formula.specs.declared.numbers.Token.the-variants as T
-use Rattle.formula.specs.Numbers.{token-of, literal-of, refused-of, answer-of}
+use Rattle.formula.specs.declared.numbers.Answer.{Answer}
+use Rattle.formula.specs.declared.numbers.Answer.the-variants as A
+use Rattle.formula.specs.Numbers.{token-of, literal-of, refused-of, answer-of, header-of}
 
 -- ---- sign and magnitude
 mag-neg : (n : ℤ) → mag (negℤ n) ≤ suc (mag n)
@@ -207,3 +209,36 @@ pub number-plain : (w : List ℕ) → (getD w 0 0 ≡ 48 → ⊥) → (getD w 0 
 unfolding number-of counting
 number-plain [] n m = refl
 number-plain (b ∷ l) n m = rw (number-of, ne-eqb b 48 n, ne-eqb b 45 m)
+
+-- ---- what a token's answer says of its number
+-- a literal came back: what holds of a number and its literal holds here
+pub on-told : (P : Number → Literal → Type 0) (n : Number) (at : ℕ) (l : Literal) → A.Literal l ≡ answer-of n at → ((z : ℤ) → P (number z) (literal-of z)) → P n l
+on-told P (number z) at l e f = let o : literal-of z ≡ l = cc in subst (P (number z)) o (f z)
+on-told P no-number at l e f = let o : _≡_ {A = ℕ} 0 1 = cc in absurd (omega arith)
+
+-- ---- header numbers
+pub header-none : (most : ℕ) (n : Number) (at : ℕ) (a : Answer) (k p : ℕ) → a ≡ A.Refused k p → a ≡ answer-of n at → a ≡ header-of most n at
+header-none most (number z) at a k p e g = let o : _≡_ {A = ℕ} 0 1 = cc in absurd (omega arith)
+header-none most no-number at a k p e g = g
+
+module _ (most : ℕ) (n : Number) (at : ℕ) (l : Literal) (e : A.Literal l ≡ answer-of n at) where
+  pub header-negated : l .negated ≡ true → A.Refused bad-token at ≡ header-of most n at
+  header-negated = on-told (λ (m : Number) (k : Literal). k .negated ≡ true → A.Refused bad-token at ≡ header-of most m at) n at l e by
+    where
+      by : (z : ℤ) → literal-of z .negated ≡ true → A.Refused bad-token at ≡ header-of most (number z) at
+      by (pos k) h = absurd (false≢true h)
+      by (negsuc k) h = refl
+
+  pub header-past : l .negated ≡ false → most < l .variable → A.Refused header-limit at ≡ header-of most n at
+  header-past = on-told (λ (m : Number) (k : Literal). k .negated ≡ false → most < k .variable → A.Refused header-limit at ≡ header-of most m at) n at l e by
+    where
+      by : (z : ℤ) → literal-of z .negated ≡ false → most < literal-of z .variable → A.Refused header-limit at ≡ header-of most (number z) at
+      by (pos k) h g = rw (lt-ltb most k g)
+      by (negsuc k) h g = absurd (true≢false h)
+
+  pub header-within : l .negated ≡ false → l .variable ≤ most → A.Literal l ≡ header-of most n at
+  header-within = on-told (λ (m : Number) (k : Literal). k .negated ≡ false → k .variable ≤ most → A.Literal k ≡ header-of most m at) n at l e by
+    where
+      by : (z : ℤ) → literal-of z .negated ≡ false → literal-of z .variable ≤ most → A.Literal (literal-of z) ≡ header-of most (number z) at
+      by (pos k) h g = rw (le-ltb most k g)
+      by (negsuc k) h g = absurd (true≢false h)

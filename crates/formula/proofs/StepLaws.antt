@@ -7,9 +7,9 @@ use native.Mathlib.Omega.{arith}
 use lib.Dec.{ltb}
 use lib.IntN.{ℤ, pos, negsuc}
 use lib.ListN.{length}
-use borrow.Author.Tests.{lt-ltb, le-ltb, le-leb, lt-leb}
+use borrow.Author.Tests.{lt-ltb, le-ltb, le-leb, lt-leb, ltb-false}
 use Rattle.rules.specs.Limits.{bad-token, header-limit, no-variable, bound-twice, too-many-universals, not-bound, both-ways, clause-count}
-use Rattle.rules.specs.Faults.{Fault, fault, first-of}
+use Rattle.rules.specs.Faults.{Fault, fault, Found, first-of}
 use Rattle.rules.specs.Faults.Found.{passes, fails}
 use Rattle.rules.specs.Formula as formula
 use Rattle.rules.specs.Formula.{Quant, Clause, no-literal, bound, has-opposite, with-literal}
@@ -25,8 +25,9 @@ use Rattle.formula.specs.declared.numbers.Answer.the-variants as A
 use Rattle.formula.specs.declared.states.Next.{Next as Made}
 use Rattle.formula.specs.declared.states.State.{State as Held}
 use Rattle.formula.specs.declared.states.Place.{Place as Spot}
-use Rattle.formula.specs.Numbers.{literal-of, answer-of}
+use Rattle.formula.specs.Numbers.{literal-of, answer-of, header-of}
 use Rattle.formula.specs.States.{place-of, state-of, Room, Stands, After, refusal-of, expected}
+use Rattle.formula.proofs.NumberLaws.{on-told}
 use Rattle.formula.proofs.StateLaws.{stands-moved}
 
 -- ---- the first of some tests
@@ -71,36 +72,44 @@ after-none at bs cs m n a r k p e f g h =
     let t = told-none n at k p (sym f ∙ g) in
     subst (After at bs cs m) (sym (e ∙ ap refusal-of f)) (h (t .0) ∙ ap stop (sym (t .1)), t .2)
 
--- a literal came back: what holds of a number and its literal holds here
-on-told : (P : Number → Literal → Type 0) (n : Number) (at : ℕ) (l : Literal) → A.Literal l ≡ answer-of n at → ((z : ℤ) → P (number z) (literal-of z)) → P n l
-on-told P (number z) at l e f = let o : literal-of z ≡ l = cc in subst (P (number z)) o (f z)
-on-told P no-number at l e f = let o : _≡_ {A = ℕ} 0 1 = cc in absurd (omega arith)
-
 -- ---- header numbers
-pub limited-none : (most : ℕ) (n : Number) (f : ℕ → State) → n ≡ no-number → limited most n f ≡ stop bad-token
-limited-none most n f e = rw e
+-- a refusal came back for a header number
+pub after-header : (at : ℕ) (bs : List formula.Bound) (cs : List Clause) (most : ℕ) (f : ℕ → State) (n : Number) (a : Answer) (r : Made) (k p : ℕ)
+    → r ≡ refusal-of a → a ≡ A.Refused k p → a ≡ header-of most n at → After at bs cs (limited most n f) r
+after-header at bs cs most f n a r k p e g h = subst (After at bs cs (limited most n f)) (sym (e ∙ ap refusal-of g)) (by n (sym g ∙ h))
+  where
+    same : (i q : ℕ) → A.Refused k p ≡ A.Refused i q → (k ≡ i) × (p ≡ q)
+    same i q o = ((cc), (cc))
 
-module _ (most : ℕ) (f : ℕ → State) (n : Number) (at : ℕ) (l : Literal) (e : A.Literal l ≡ answer-of n at) where
-  pub limited-negated : l .negated ≡ true → limited most n f ≡ stop bad-token
-  limited-negated = on-told (λ (m : Number) (k : Literal). k .negated ≡ true → limited most m f ≡ stop bad-token) n at l e by
-    where
-      by : (z : ℤ) → literal-of z .negated ≡ true → limited most (number z) f ≡ stop bad-token
-      by (pos k) h = absurd (false≢true h)
-      by (negsuc k) h = refl
+    past : (m : ℕ) (b : Bool) → ltb most m ≡ b → A.Refused k p ≡ cond b (A.Refused header-limit at) (A.Literal (literal-of (pos m)))
+        → (limited most (number (pos m)) f ≡ stop k) × (p ≡ at)
+    past m true e o =
+        let t = same header-limit at o in
+        (ap (λ (d : Found). unless d (f m)) (first-fails header-limit (ltb most m) [] e) ∙ ap stop (sym (t .0)), t .1)
+    past m false e o = let z : _≡_ {A = ℕ} 0 1 = cc in absurd (omega arith)
 
-  pub limited-past : l .negated ≡ false → most < l .variable → limited most n f ≡ stop header-limit
-  limited-past = on-told (λ (m : Number) (k : Literal). k .negated ≡ false → most < k .variable → limited most m f ≡ stop header-limit) n at l e by
-    where
-      by : (z : ℤ) → literal-of z .negated ≡ false → most < literal-of z .variable → limited most (number z) f ≡ stop header-limit
-      by (pos k) h g = rw (first-fails header-limit (ltb most k) [] (lt-ltb most k g))
-      by (negsuc k) h g = absurd (true≢false h)
+    by : (n : Number) → A.Refused k p ≡ header-of most n at → (limited most n f ≡ stop k) × (p ≡ at)
+    by no-number o = let t = same bad-token at o in (ap stop (sym (t .0)), t .1)
+    by (number (negsuc m)) o = let t = same bad-token at o in (ap stop (sym (t .0)), t .1)
+    by (number (pos m)) o = past m (ltb most m) refl o
 
-  pub limited-within : l .negated ≡ false → l .variable ≤ most → limited most n f ≡ go (f (l .variable))
-  limited-within = on-told (λ (m : Number) (k : Literal). k .negated ≡ false → k .variable ≤ most → limited most m f ≡ go (f (k .variable))) n at l e by
-    where
-      by : (z : ℤ) → literal-of z .negated ≡ false → literal-of z .variable ≤ most → limited most (number z) f ≡ go (f (literal-of z .variable))
-      by (pos k) h g = rw (first-passes header-limit (ltb most k) [] (le-ltb most k g), first-none)
-      by (negsuc k) h g = absurd (true≢false h)
+-- a header number came back
+pub limited-header : (most : ℕ) (f : ℕ → State) (n : Number) (at : ℕ) (l : Literal) → A.Literal l ≡ header-of most n at
+    → (limited most n f ≡ go (f (l .variable))) × (l .variable ≤ most)
+limited-header most f n at l = by n
+  where
+    within : (m : ℕ) (b : Bool) → ltb most m ≡ b → A.Literal l ≡ cond b (A.Refused header-limit at) (A.Literal (literal-of (pos m)))
+        → (limited most (number (pos m)) f ≡ go (f (l .variable))) × (l .variable ≤ most)
+    within m true e o = let z : _≡_ {A = ℕ} 0 1 = cc in absurd (omega arith)
+    within m false e o =
+        let q : literal-of (pos m) ≡ l = cc in
+        subst (λ (k : Literal). (limited most (number (pos m)) f ≡ go (f (k .variable))) × (k .variable ≤ most)) q
+        (ap (λ (d : Found). unless d (f m)) (first-passes header-limit (ltb most m) [] e ∙ first-none), ltb-false most m e)
+
+    by : (n : Number) → A.Literal l ≡ header-of most n at → (limited most n f ≡ go (f (l .variable))) × (l .variable ≤ most)
+    by no-number o = let z : _≡_ {A = ℕ} 0 1 = cc in absurd (omega arith)
+    by (number (negsuc m)) o = let z : _≡_ {A = ℕ} 0 1 = cc in absurd (omega arith)
+    by (number (pos m)) o = within m (ltb most m) refl o
 
 -- ---- blocks
 pub block-none : (st : State) (q : Quant) (some : Bool) (n : Number) → n ≡ no-number → block-token st q some n ≡ stop bad-token

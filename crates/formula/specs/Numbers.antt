@@ -1,8 +1,9 @@
 -- A token's answer and a literal, from the number that the token spells (01, Formula text).
-use mathlib.Core.Bool.{true, false}
+use mathlib.Core.Bool.{true, false, cond}
 use Prim.Native.Nat.{ℕ, suc}
+use lib.Dec.{ltb}
 use lib.IntN.{ℤ, pos, negsuc}
-use Rattle.rules.specs.Limits.{bad-token}
+use Rattle.rules.specs.Limits.{bad-token, header-limit}
 use Rattle.rules.specs.Text.{Number}
 use Rattle.rules.specs.Text.Number.{number, no-number}
 use Rattle.formula.specs.declared.numbers.Token.{Token}
@@ -30,3 +31,9 @@ refused-of (T.Refused k at) = A.Refused k at
 abbrev pub answer-of : Number → ℕ → Answer
 answer-of (number z) at = A.Literal (literal-of z)
 answer-of no-number at = A.Refused bad-token at
+
+-- a header number up to its limit, or 3 or 4 with the token's offset; a negative one is no token there
+abbrev pub header-of : ℕ → Number → ℕ → Answer
+header-of most no-number at = A.Refused bad-token at
+header-of most (number (negsuc n)) at = A.Refused bad-token at
+header-of most (number (pos n)) at = cond (ltb most n) (A.Refused header-limit at) (A.Literal (literal-of (pos n)))

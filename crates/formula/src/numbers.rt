@@ -1,5 +1,6 @@
 // A token as a signed number, or the refusal with the token's offset; a number as variable and polarity.
 use rules::limits::BAD_TOKEN;
+use rules::limits::HEADER_LIMIT;
 use rules::limits::NUMBER_MOST;
 ghost use mathlib.Core.Path.{_≡_};
 ghost use mathlib.Core.Bool.{true, false, cond};
@@ -9,7 +10,7 @@ ghost use lib.Signed.{mag};
 ghost use lib.ListN.{length, drop};
 ghost use Rattle.rules.specs.Limits.{number-most};
 ghost use Rattle.rules.specs.Text as text;
-ghost use Rattle.formula.specs.Numbers.{token-of, literal-of, refused-of, answer-of};
+ghost use Rattle.formula.specs.Numbers.{token-of, literal-of, refused-of, answer-of, header-of};
 
 const MINUS: u8 = 45;
 
@@ -162,4 +163,21 @@ pub fn spelled_literal(word: &[u8], at: usize) -> Answer
         return refused(t);
     };
     Answer::Literal(split(n))
+}
+
+// A header number of at most `most`, or the refusal 3 or 4 with the token's offset.
+pub fn header_number(word: &[u8], at: usize, most: u32) -> Answer
+    ensures { λ r. ⌜ r ≡ header-of most (text.number-of (now (word .entry))) at ⌝ }
+{
+    let a = spelled_literal(word, at);
+    let Answer::Literal(l) = a else {
+        return a;
+    };
+    if l.negated {
+        return Answer::Refused(BAD_TOKEN, at);
+    }
+    if most < l.variable {
+        return Answer::Refused(HEADER_LIMIT, at);
+    }
+    Answer::Literal(l)
 }

@@ -1,5 +1,6 @@
 // What is read so far, and what one token more makes of it.
 use crate::numbers::Answer;
+use crate::numbers::header_number;
 use crate::numbers::spelled_literal;
 use crate::words::is_cnf;
 use crate::words::is_letter;
@@ -8,7 +9,6 @@ use rules::limits::BOTH_WAYS;
 use rules::limits::BOUND_TWICE;
 use rules::limits::CLAUSE_COUNT;
 use rules::limits::CLAUSES_MOST;
-use rules::limits::HEADER_LIMIT;
 use rules::limits::NO_VARIABLE;
 use rules::limits::NOT_BOUND;
 use rules::limits::TOO_MANY_UNIVERSALS;
@@ -153,21 +153,14 @@ fn variables_token(s: State, word: &[u8], at: usize) -> Next
     requires { ⌜ s .done ≡ 0 ⌝ }
     ensures { λ r. ⌜ Takes s at (λ st. reading.limited variables-most (number-of (now (word .entry))) (reading.with-variables st)) r ⌝ }
 {
-    let a = spelled_literal(word, at);
+    let a = header_number(word, at, VARIABLES_MOST);
     let Answer::Literal(l) = a else {
         return refused(a);
     };
-    if l.negated {
-        return Next::Refused(BAD_TOKEN, at);
-    }
-    let n = l.variable;
-    if VARIABLES_MOST < n {
-        return Next::Refused(HEADER_LIMIT, at);
-    }
     let bound = s.bound;
     Next::Go(State {
         place: Place::Count,
-        variables: n,
+        variables: l.variable,
         count: s.count,
         bound,
         placed: s.placed,
@@ -181,22 +174,15 @@ fn count_token(s: State, word: &[u8], at: usize) -> Next
     requires { ⌜ s .done ≡ 0 ⌝ }
     ensures { λ r. ⌜ Takes s at (λ st. reading.limited clauses-most (number-of (now (word .entry))) (reading.with-count st)) r ⌝ }
 {
-    let a = spelled_literal(word, at);
+    let a = header_number(word, at, CLAUSES_MOST);
     let Answer::Literal(l) = a else {
         return refused(a);
     };
-    if l.negated {
-        return Next::Refused(BAD_TOKEN, at);
-    }
-    let n = l.variable;
-    if CLAUSES_MOST < n {
-        return Next::Refused(HEADER_LIMIT, at);
-    }
     let bound = s.bound;
     Next::Go(State {
         place: Place::Block,
         variables: s.variables,
-        count: n,
+        count: l.variable,
         bound,
         placed: s.placed,
         universals: s.universals,
