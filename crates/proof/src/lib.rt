@@ -20,6 +20,7 @@ ghost use mathlib.Core.Path.{_≡_};
 ghost use mathlib.Core.Bool.{not};
 ghost use Prim.Native.Nat.{ℕ, _+_, _<_};
 ghost use lib.ListN.{length};
+ghost use Rattle.rules.specs.Limits.{record-bytes};
 ghost use Rattle.rules.specs.File.{pair-at, bare-tail, decoded};
 ghost use Rattle.proof.specs.Head.{unmarked, head-of};
 
@@ -46,7 +47,7 @@ pub fn pair(bytes: &[u8], at: usize) -> u16
 
 // Bytes 3 to 7 of a record are zero.
 fn bare(rec: &[u8]) -> bool
-    requires { ⌜ length (now rec) ≡ 8 ⌝ }
+    requires { ⌜ length (now rec) ≡ record-bytes ⌝ }
     ensures { λ r. ⌜ r ≡ bare-tail (now (rec .entry)) ⌝ }
 {
     if rec[3] != 0 {
@@ -69,7 +70,7 @@ fn bare(rec: &[u8]) -> bool
 
 // A record as a line, or the refusal's number.
 pub fn decode(rec: &[u8]) -> Decoded
-    requires { ⌜ length (now rec) ≡ 8 ⌝ }
+    requires { ⌜ length (now rec) ≡ record-bytes ⌝ }
     ensures { λ r. ⌜ r ≡ decoded (now (rec .entry)) ⌝ }
 {
     let kind = rec[0];

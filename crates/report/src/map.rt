@@ -6,6 +6,7 @@ use rules::limits::LINE_PLACES;
 ghost use mathlib.Core.Path.{_≡_};
 ghost use Prim.Native.Nat.{_+_, _*_, _≤_, _<_};
 ghost use lib.ListN.{length};
+ghost use Rattle.rules.specs.Limits.{lines-most};
 ghost use Rattle.rules.specs.MapLaws.{In-range};
 ghost use Rattle.rules.specs.Services.{table-column};
 ghost use Rattle.rules.specs.Report.{nodes-falling, node-line, joined, map-lines};
@@ -15,7 +16,7 @@ ghost use Rattle.report.specs.Marks.{with-ends};
 
 // Marks a node's ends.
 fn mark_ends(marks: &mut [u8], node: Node)
-    requires { ⌜ (In-range node) × (length (now marks) ≡ 1024) ⌝ }
+    requires { ⌜ (In-range node) × (length (now marks) ≡ lines-most) ⌝ }
     ensures { λ _. ⌜ now (marks .exit) ≡ with-ends node (now (marks .entry)) ⌝ }
 {
     match node {

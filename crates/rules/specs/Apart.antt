@@ -8,6 +8,9 @@ use lib.Dec.{eqb}
 use lib.ListN.{length, getD, replicate}
 use Rattle.rules.specs.declared.Reply.{Reply}
 use Rattle.rules.specs.declared.Played.{Played}
+use Rattle.rules.specs.Faults.{Found}
+use Rattle.rules.specs.Faults.Found.{passes, fails}
+use Rattle.rules.specs.File.{merge-proof, head-fault}
 use Rattle.rules.specs.Bytes.{text, hex}
 use Rattle.rules.specs.Services.{Lent, refusal, Answer, reading, checking, playing, table-column}
 use Rattle.rules.specs.Maps.{walk, walk-over}
@@ -115,6 +118,10 @@ texts =
     ∷ case "p cnf 1 1 e 1 0 1 0 a 1 0" 10 20
     ∷ case "p cnf 1 2 e 1 0 1 0 e 1 0" 3 20
     ∷ case "p cnf 1 0 a 1 0 x" 10 16
+    ∷ case " p cnf 0 0" 0 0
+    ∷ case "A\np cnf 0 0" 3 0
+    ∷ case "c\tq\np cnf 0 0" 0 0
+    ∷ case "p cnf 1 1 e 1 0 +1 0" 3 16
     ∷ []
 
 -- reading answers so
@@ -125,6 +132,12 @@ unfoldable pub all-read : List Text-case → Bool
 unfolding reads
 all-read [] = true
 all-read (c ∷ cs) = read-so c && all-read cs
+
+-- these bytes separate no tokens: each between p and cnf makes one token of them
+unfoldable pub no-separators : List ℕ → Bool
+unfolding reads
+no-separators [] = true
+no-separators (b ∷ bs) = let r = reads (112 ∷ b ∷ text "cnf 0 0") .reply in (eqb (r .number) 3 && eqb (r .place) 0) && no-separators bs
 
 -- ---- proofs: the number, the line and the variable of checking's reply
 pub record Proof-case : Type 0 where
@@ -140,6 +153,7 @@ with-proof s p n at v = record { given = s; proof = p; number = n; place = at; v
 unfoldable pub proofs : List Proof-case
 proofs =
     with-proof "p cnf 3 3 e 1 0 a 2 0 e 3 0 1 2 3 0 -1 -2 3 0 -3 0" "" 11 0 0
+    ∷ with-proof "p cnf 3 3 e 1 0 a 2 0 e 3 0 1 2 3 0 -1 -2 3 0 -3 0" "4D 52 50 00 00 00 00" 11 0 0
     ∷ with-proof "p cnf 3 3 e 1 0 a 2 0 e 3 0 1 2 3 0 -1 -2 3 0 -3 0" "4D 52 50 01 00 05" 11 0 0
     ∷ with-proof "p cnf 3 3 e 1 0 a 2 0 e 3 0 1 2 3 0 -1 -2 3 0 -3 0" "4C 52 50 01 00 00 00" 11 0 0
     ∷ with-proof "p cnf 3 3 e 1 0 a 2 0 e 3 0 1 2 3 0 -1 -2 3 0 -3 0" "4D 53 50 01 00 00 00" 11 0 0
@@ -232,6 +246,11 @@ unfolding checks
 all-checked [] = true
 all-checked (c ∷ cs) = checked-so c && all-checked cs
 
+-- the head's refusal
+unfoldable pub heads : List ℕ → Found
+unfolding checks
+heads s = head-fault merge-proof 0 s
+
 -- ---- 004's Examples 15 and 16: roots of the last line, and the nodes
 abbrev pub example-15 : String
 example-15 = "p cnf 6 6 e 1 2 3 0 a 4 0 e 5 6 0 3 2 4 0 -3 2 -4 0 -2 4 5 0 1 -5 0 -2 6 0 -1 -6 0"
@@ -280,7 +299,11 @@ playing-of c r n = playing c r (replicate n 1) (0 ∷ [])
 
 pub record Told-apart : Type 0 where
   pub texts : all-read texts ≡ true
+  pub separate : no-separators (0 ∷ 8 ∷ 11 ∷ 12 ∷ 14 ∷ 31 ∷ 33 ∷ []) ≡ true
   pub proofs : all-checked proofs ≡ true
+  -- 1,024 lines, and one more
+  pub most-lines : heads (hex "4D 52 50 01 00 00 04" ++ replicate 8192 0) ≡ passes
+  pub one-line-more : heads (hex "4D 52 50 01 00 01 04" ++ replicate 8200 0) ≡ fails 13 0
   -- what reading leaves: filled, zero, as it came
   pub read-reply : reads (text "p cnf 64 2 a 64 0 e 3 1 0 64 -3 0 -64 1 -64 0") .reply
       ≡ record { number = 0; place = 0; variable = 0; variables = 64; clauses = 2; universals = 1; lines = 0 }
@@ -289,6 +312,8 @@ pub record Told-apart : Type 0 where
       ≡ 9223372036854775808 ∷ 4 ∷ 1 ∷ 9223372036854775808 ∷ replicate 508 0 ++ (9 ∷ [])
   pub unread-prefix : read-prefix (text "p cnf 2 1 e 1 0 2 0") ≡ replicate 64 0 ++ (9 ∷ [])
   pub unread-clauses : read-clauses (text "p cnf 2 1 e 1 0 2 0") ≡ replicate 512 0 ++ (9 ∷ [])
+  -- a refusal has 0 for each count
+  pub refused-reply : checks G [] .reply ≡ record { number = 11; place = 0; variable = 0; variables = 0; clauses = 0; universals = 0; lines = 0 }
   -- what a refused check leaves
   pub refused-prefix : leaves G (hex "4D") .prefix ≡ replicate 64 0 ++ (9 ∷ [])
   pub refused-clauses : leaves G (hex "4D") .clauses ≡ replicate 512 0 ++ (9 ∷ [])
@@ -313,6 +338,8 @@ pub record Told-apart : Type 0 where
   pub prints-star : prints (text "p cnf 1 1 a 1 0 0") (hex "4D 52 50 01 00 01 00 01 01 00 00 00 00 00 00") ≡ text "accepted 1\nmap 1 root 1\n1 star\n"
   pub prints-two-maps : prints (text wide) (hex wide-proof) ≡ text "accepted 3\nmap 63 root 3\n3 if 64 then 2 else 1\n2 one\n1 zero\nmap 1 root 3\n3 if 64 then 2 else 1\n2 zero\n1 star\n"
   pub prints-long : prints (replicate 65537 32) [] ≡ text "refused 1 0 0\n"
+  pub prints-longest : prints (replicate 65536 32) [] ≡ text "refused 3 65536 0\n"
+  pub prints-ten : prints (replicate 10 32) [] ≡ text "refused 3 10 0\n"
   pub prints-place : prints (replicate 12345 32) [] ≡ text "refused 3 12345 0\n"
   -- stars
   pub over-stars : checks (text stars) (hex "4D 52 50 01 00 07 00 01 01 00 00 00 00 00 00 01 02 00 00 00 00 00 00 02 01 00 02 00 01 01 00 01 03 00 00 00 00 00 00 01 04 00 00 00 00 00 00 02 04 00 05 00 04 00 00 02 03 00 06 00 03 00 00") .reply ≡ refusal 31 7 2
@@ -345,6 +372,7 @@ pub record Told-apart : Type 0 where
   pub long-text : checks (replicate 65537 32) [] .reply ≡ refusal 1 0 0
   pub longest-text : checks (replicate 65536 32) [] .reply ≡ refusal 3 65536 0
   pub long-read : reads (replicate 65537 32) .reply ≡ refusal 1 0 0
+  pub longest-read : reads (replicate 65536 32) .reply ≡ refusal 3 65536 0
   pub long-leaves : leaves (replicate 65537 32) [] .nodes ≡ replicate 16385 9
   -- playing: leaves, both ends of a branch, words that are none, ends that do not fall, columns and roots out of range
   pub play-star : plays-second 1 2 3 0 1 0 ≡ value 1
@@ -371,15 +399,19 @@ pub record Told-apart : Type 0 where
   pub play-longer : playing-of 1 1 16385 ≡ value 1
 
 pub told-apart : Told-apart
-unfolding prints texts all-read proofs all-checked reads read-prefix read-clauses leaves checks plays plays-second playing-of G reading checking
+unfolding prints texts all-read no-separators proofs all-checked heads reads read-prefix read-clauses leaves checks plays plays-second playing-of G reading checking
 told-apart = record {
   texts = refl;
+  separate = refl;
   proofs = refl;
+  most-lines = refl;
+  one-line-more = refl;
   read-reply = refl;
   filled-prefix = refl;
   filled-clauses = refl;
   unread-prefix = refl;
   unread-clauses = refl;
+  refused-reply = refl;
   refused-prefix = refl;
   refused-clauses = refl;
   refused-lines = refl;
@@ -398,6 +430,8 @@ told-apart = record {
   prints-star = refl;
   prints-two-maps = refl;
   prints-long = refl;
+  prints-longest = refl;
+  prints-ten = refl;
   prints-place = refl;
   over-stars = refl;
   kept-stars = refl;
@@ -425,6 +459,7 @@ told-apart = record {
   long-text = refl;
   longest-text = refl;
   long-read = refl;
+  longest-read = refl;
   long-leaves = refl;
   play-star = refl;
   play-one = refl;

@@ -15,9 +15,13 @@ use Rattle.rules.specs.Faults.{Fault, fault, Found, first-of}
 use Rattle.rules.specs.Faults.Found.{passes, fails}
 use Rattle.rules.specs.Text.{spelled}
 
+-- the byte at a place, counted from 0; past the end, where nothing is asked, 0
+abbrev pub byte-at : List ℕ → ℕ → ℕ
+byte-at s k = getD s k 0
+
 -- every two-byte number in the file has its low byte first
 unfoldable pub pair-at : List ℕ → ℕ → ℕ
-pair-at s k = getD s k 0 + getD s (k + 1) 0 * 256
+pair-at s k = byte-at s k + byte-at s (k + 1) * 256
 
 -- a kind of file: its mark, its version, and the bytes between head and records for k universals
 pub record Form : Type 0 where
@@ -54,16 +58,16 @@ records form k s = split (announced s) (drop (head-bytes + form .between k) s)
 -- ---- a record as a line
 -- bytes 3 to 7 are zero
 abbrev pub bare-tail : List ℕ → Bool
-bare-tail s = eqb (getD s 3 0) 0 && (eqb (getD s 4 0) 0 && (eqb (getD s 5 0) 0 && (eqb (getD s 6 0) 0 && eqb (getD s 7 0) 0)))
+bare-tail s = eqb (byte-at s 3) 0 && (eqb (byte-at s 4) 0 && (eqb (byte-at s 5) 0 && (eqb (byte-at s 6) 0 && eqb (byte-at s 7) 0)))
 
 abbrev pub resolution-at : List ℕ → Resolution
-resolution-at s = record { a = pair-at s 1; b = pair-at s 3; pivot = getD s 5 0; merge = pair-at s 6 }
+resolution-at s = record { a = pair-at s 1; b = pair-at s 3; pivot = byte-at s 5; merge = pair-at s 6 }
 
 unfoldable pub decoded : List ℕ → Decoded
 decoded s =
-    elim (eqb (getD s 0 0) 1) [
+    elim (eqb (byte-at s 0) 1) [
       | true ↦ elim (bare-tail s) [ true ↦ D.Line (L.Axiom (pair-at s 1)) | false ↦ D.Refused axiom-tail ]
-      | false ↦ elim (eqb (getD s 0 0) 2) [ true ↦ D.Line (L.Resolve (resolution-at s)) | false ↦ D.Refused bad-kind ]
+      | false ↦ elim (eqb (byte-at s 0) 2) [ true ↦ D.Line (L.Resolve (resolution-at s)) | false ↦ D.Refused bad-kind ]
     ]
 
 -- ---- the file of given lines

@@ -1,5 +1,5 @@
-// The types of documents 01 and 004 that definitions and code share. The definitions are in specs/;
-// there is no code here.
+// The types of documents 01 and 004 that definitions and code share, and 01's numbers. The definitions are in
+// specs/; there is no code here.
 pub mod limits;
 
 // What a map plays: no value, 1 or 0.
