@@ -1,14 +1,13 @@
 -- Demands 2 and 3 read off the services alone: what an answer 0 of checking says, and what playing then gives.
-use mathlib.Core.Path.{_≡_, refl, sym, ap, _∙_, subst}
+use mathlib.Core.Path.{_≡_, sym, ap, _∙_, subst}
 use mathlib.Core.Bool.{Bool, true, false, _||_}
 use mathlib.Core.List.{List, [], _∷_}
 use Prim.Native.Nat.{ℕ, zero, suc, _+_, _-_, _*_, _≤_, _<_}
 use native.Mathlib.Omega.{arith}
 use lib.ListN.{length, getD}
 use borrow.Author.Tests.{ltb-false}
-use lib.Dec.{eqb, ltb}
+use lib.Dec.{ltb}
 use Rattle.rules.specs.declared.Value.{Value}
-use Rattle.rules.specs.declared.Value.the-variants.{Star, One, Zero}
 use Rattle.rules.specs.declared.Reply.{Reply}
 use Rattle.rules.specs.declared.Played.{Played}
 use Rattle.rules.specs.Limits.{universals-most, map-words, prefix-words, clause-words, line-words}
@@ -18,7 +17,7 @@ use Rattle.rules.specs.Formula.Quant.{exists, forall}
 use Rattle.rules.specs.Reading.{Reading, read}
 use Rattle.rules.specs.Reading.Reading.{unread, formula}
 use Rattle.rules.specs.File.{announced}
-use Rattle.rules.specs.Maps.{plays, value-word, as-bool}
+use Rattle.rules.specs.Maps.{plays, value-word}
 use Rattle.rules.specs.Lines.{Row, no-row, house, column, root-at}
 use Rattle.rules.specs.Tables.{rows-of, node-row, root-row, holding, Leaves, nodes-after, roots-after}
 use Rattle.rules.specs.Services.{Lent, Answer, success, checking, playing, short}
@@ -128,9 +127,3 @@ module _ (text proof : List ℕ) (T : Lent) (r : Reply) (p c l n t : List ℕ) (
         play-last settings q e
         ∙ ap (λ (v : Value). record { number = 0; value = value-word v }) (countermodel .depends j present (has (settings ∷ [])) (has (other ∷ [])) same)
         ∙ sym (play-last other o f)
-
--- demand 3 plays a star as 0: the burst is sent where the answer's value is 2, one
-pub sent : (v : Value) → eqb (value-word v) 2 ≡ as-bool v
-sent Star = refl
-sent One = refl
-sent Zero = refl

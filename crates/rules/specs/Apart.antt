@@ -339,6 +339,7 @@ pub record Told-apart : Type 0 where
   pub prints-two-maps : prints (text wide) (hex wide-proof) ≡ text "accepted 3\nmap 63 root 3\n3 if 64 then 2 else 1\n2 one\n1 zero\nmap 1 root 3\n3 if 64 then 2 else 1\n2 zero\n1 star\n"
   pub prints-long : prints (replicate 65537 32) [] ≡ text "refused 1 0 0\n"
   pub prints-longest : prints (replicate 65536 32) [] ≡ text "refused 3 65536 0\n"
+  pub prints-nine : prints (replicate 9 32) [] ≡ text "refused 3 9 0\n"
   pub prints-ten : prints (replicate 10 32) [] ≡ text "refused 3 10 0\n"
   pub prints-place : prints (replicate 12345 32) [] ≡ text "refused 3 12345 0\n"
   -- stars
@@ -431,6 +432,7 @@ told-apart = record {
   prints-two-maps = refl;
   prints-long = refl;
   prints-longest = refl;
+  prints-nine = refl;
   prints-ten = refl;
   prints-place = refl;
   over-stars = refl;

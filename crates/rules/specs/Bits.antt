@@ -7,7 +7,7 @@ use native.Mathlib.Omega.{arith}
 use native.Mathlib.Nat.{pow-suc, mod-eq-of-lt}
 use lib.Dec.{eqb, eqb·suc-zero, eqb·zero-suc, eqb·suc-suc}
 use lib.Bits.{bitAnd, bitOr, and-step, or-step, and-mask}
-use lib.Pow.{pow-lt, shr-shr}
+use lib.Pow.{pow-lt, pow-pos, shr-shr}
 use native.Mathlib.Decide.{decLt}
 
 abbrev pub odd : ℕ → Bool
@@ -141,3 +141,19 @@ bit-single n j k h =
 -- (a >> k) & 1 == 1
 pub bit-test : (a k : ℕ) → eqb (bitAnd (a / 2 ^ k) 1) 1 ≡ bit a k
 bit-test a k = ap (λ (w : ℕ). eqb w 1) (and-mask (a / 2 ^ k) 1) ∙ sym (bit-shr a k)
+
+-- ---- numbers whose bits are all low
+under-pow : (m : ℕ) → m < 2 ^ m
+under-pow zero = omega arith
+under-pow (suc m) = omega (arith, under-pow m, pow-suc 2 m)
+
+-- a set all of whose members are below k is below 2 ^ k
+pub members-below : (k m : ℕ) → ((j : ℕ) → bit m j ≡ true → j < k) → m < 2 ^ k
+unfolding bit
+members-below zero m h =
+    let z : m ≡ 0 = bit-ext m m 0 (under-pow m) (pow-pos m) (λ j l. by j (bit m j) refl ∙ sym (bit-zero j)) in omega arith
+  where
+    by : (j : ℕ) (t : Bool) → bit m j ≡ t → bit m j ≡ false
+    by j true e = absurd (omega (arith, h j e))
+    by j false e = e
+members-below (suc k) m h = omega (arith, pow-suc 2 k, members-below k (m / 2) (λ j e. omega (arith, h (suc j) e)))

@@ -130,7 +130,7 @@ pub record Proves (text proof : List ℕ) (F : Formula) (L : ℕ → Proof-line)
   pub empty : Empty (L (announced proof) .clause)
 
 -- the number of records is the number announced
-records-length : (k : ℕ) (proof : List ℕ) → length (records merge-proof k proof) ≡ announced proof
+pub records-length : (k : ℕ) (proof : List ℕ) → length (records merge-proof k proof) ≡ announced proof
 unfolding records
 records-length k proof = length-split (announced proof) _
 

@@ -5,15 +5,13 @@ use mathlib.Core.List.{List, [], _∷_, _++_}
 use mathlib.Core.Logic.{inl, inr, by-cases, _↔_}
 use Prim.Native.Nat.{ℕ, zero, suc, _+_, _/_, _^_, _≤_, _<_}
 use native.Mathlib.Omega.{arith}
-use native.Mathlib.Nat.{pow-suc}
 use native.Mathlib.Decide.{decLt}
-use lib.Pow.{pow-pos}
 use lib.ListN.{length, getD}
 use Rattle.rules.specs.declared.Resolution.{Resolution}
 use Rattle.rules.specs.declared.Line.{Line}
 use Rattle.rules.specs.declared.Line.the-variants.{Axiom, Resolve}
 use Rattle.rules.specs.declared.Decoded.the-variants as D
-use Rattle.rules.specs.Bits.{bit, bit-past, bit-zero, bit-ext}
+use Rattle.rules.specs.Bits.{bit, bit-past, members-below}
 use Rattle.rules.specs.Sets.{has}
 use Rattle.rules.specs.Formula.{Clause, Formula, bound-by, universals, existentials, kept-by, resolvent}
 use Rattle.rules.specs.Formula.Quant.{exists}
@@ -34,22 +32,6 @@ use Rattle.rules.specs.Proper.{Proper}
 use Rattle.rules.specs.Good.{Good}
 use Rattle.rules.specs.GoodLaws.{row-new, rows-grown, clause-before, column-before, root-before, column-new, root-new, each-at, Resolves, Follows, Selects, select-keeps, root-sound, column-falling, next-follows, follows-next, good-follows, good-next}
 use Rattle.rules.specs.Bridge.{map-at, map-same, map-leaf, map-branch, stands, stands-consistent, stands-trivial, stands-isomorphic}
-
--- ---- numbers of the merge set
-under-pow : (m : ℕ) → m < 2 ^ m
-under-pow zero = omega arith
-under-pow (suc m) = omega (arith, under-pow m, pow-suc 2 m)
-
--- a set all of whose members are below k is below 2 ^ k
-members-below : (k m : ℕ) → ((j : ℕ) → bit m j ≡ true → j < k) → m < 2 ^ k
-unfolding bit
-members-below zero m h =
-    let z : m ≡ 0 = bit-ext m m 0 (under-pow m) (pow-pos m) (λ j l. by j (bit m j) refl ∙ sym (bit-zero j)) in omega arith
-  where
-    by : (j : ℕ) (t : Bool) → bit m j ≡ t → bit m j ≡ false
-    by j true e = absurd (omega (arith, h j e))
-    by j false e = e
-members-below (suc k) m h = omega (arith, pow-suc 2 k, members-below k (m / 2) (λ j e. omega (arith, h (suc j) e)))
 
 -- ---- the same literals
 pub same-sym : {C D : Clause} → Same-literals C D → Same-literals D C

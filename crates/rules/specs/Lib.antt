@@ -34,6 +34,7 @@ pub mod Countermodel
 pub mod Bridge
 pub mod Held
 pub mod Exact
+pub mod Complete
 pub mod FirstFault
 pub mod TableLaws
 pub mod TablePlays

@@ -15,7 +15,7 @@ use Rattle.rules.specs.Limits.{variables-most, branch-mark, variable-ste
 use Rattle.rules.specs.Sets.{Set, none, has, with}
 use Rattle.rules.specs.SetLaws.{length-none, length-with, has-with}
 use Rattle.rules.specs.Formula.{Assignment}
-use Rattle.rules.specs.Maps.{node-word, node-of, branch-at, Column, Walk, noting, walk-node, walk-over, walk, value-of, plays, Reached, star?}
+use Rattle.rules.specs.Maps.{value-word, node-word, node-of, branch-at, Column, Walk, noting, walk-node, walk-over, walk, value-of, plays, as-bool, Reached, star?}
 use Rattle.rules.specs.Maps.Walk.{ended, broken}
 use Rattle.rules.specs.Maps.Reached.{root, low, high}
 
@@ -380,3 +380,9 @@ star-word w = by (eqb w 1) refl (eqb w 2) refl (eqb w 3) refl (leb branch-mark w
     by false p false q true o l g = rw (p, q, o, node-of)
     by false p false q false o false l = rw (p, q, o, l, node-of)
     by false p false q false o true l = rw (p, q, o, l, node-of)
+
+-- ---- demand 3 plays "no value" as 0: the burst is sent where a leaf's word is 2, one
+pub sent : (v : Value) → eqb (value-word v) 2 ≡ as-bool v
+sent Star = refl
+sent One = refl
+sent Zero = refl
