@@ -8,6 +8,8 @@ use lib.Dec.{eqb}
 use lib.ListN.{length, getD, replicate}
 use Rattle.rules.specs.declared.Reply.{Reply}
 use Rattle.rules.specs.declared.Played.{Played}
+use Rattle.rules.specs.Bits.{bit}
+use Rattle.rules.specs.Sets.{has, with}
 use Rattle.rules.specs.Faults.{Found}
 use Rattle.rules.specs.Faults.Found.{passes, fails}
 use Rattle.rules.specs.File.{merge-proof, head-fault}
@@ -360,6 +362,9 @@ pub record Told-apart : Type 0 where
   pub isomorphic-nodes : row-of 16 6 (leaves (text "p cnf 7 4 e 6 7 0 a 5 0 6 7 5 0 -6 7 -5 0 6 -7 5 0 -6 -7 -5 0") (hex "4D 52 50 01 00 07 00 01 01 00 00 00 00 00 00 01 02 00 00 00 00 00 00 01 03 00 00 00 00 00 00 01 04 00 00 00 00 00 00 02 01 00 02 00 06 01 00 02 03 00 04 00 06 01 00 02 05 00 06 00 07 00 00") .nodes) ≡ alone 1078986755
   pub isomorphic-root : row-of 16 7 (leaves (text "p cnf 7 4 e 6 7 0 a 5 0 6 7 5 0 -6 7 -5 0 6 -7 5 0 -6 -7 -5 0") (hex "4D 52 50 01 00 07 00 01 01 00 00 00 00 00 00 01 02 00 00 00 00 00 00 01 03 00 00 00 00 00 00 01 04 00 00 00 00 00 00 02 01 00 02 00 06 01 00 02 03 00 04 00 06 01 00 02 05 00 06 00 07 00 00") .roots) ≡ alone 5
   pub wide-resolvent : row-of 2 3 (leaves (text "p cnf 64 3 e 1 64 0 1 64 0 -64 0 -1 0") (hex "4D 52 50 01 00 05 00 01 01 00 00 00 00 00 00 01 02 00 00 00 00 00 00 02 01 00 02 00 40 00 00 01 03 00 00 00 00 00 00 02 03 00 04 00 01 00 00") .lines) ≡ 1 ∷ 0 ∷ []
+  -- a set of two words: variable 65 is the first of the second
+  pub second-word : with (0 ∷ 0 ∷ []) 65 ≡ 0 ∷ 1 ∷ []
+  pub in-second-word : has (0 ∷ 1 ∷ []) 65 ≡ true
   -- tables too short, and a text too long
   pub short-prefix : checking [] [] (record { prefix = replicate 63 9; clauses = replicate 512 9; lines = replicate 2048 9; nodes = replicate 16384 9; roots = replicate 16384 9 }) .reply ≡ refusal 2 0 0
   pub short-clauses : checking [] [] (record { prefix = replicate 64 9; clauses = replicate 511 9; lines = replicate 2048 9; nodes = replicate 16384 9; roots = replicate 16384 9 }) .reply ≡ refusal 2 0 0
@@ -400,7 +405,7 @@ pub record Told-apart : Type 0 where
   pub play-longer : playing-of 1 1 16385 ≡ value 1
 
 pub told-apart : Told-apart
-unfolding prints texts all-read no-separators proofs all-checked heads reads read-prefix read-clauses leaves checks plays plays-second playing-of G reading checking
+unfolding prints texts all-read no-separators proofs all-checked heads reads read-prefix read-clauses leaves checks plays plays-second playing-of G reading checking bit has with
 told-apart = record {
   texts = refl;
   separate = refl;
@@ -449,6 +454,8 @@ told-apart = record {
   isomorphic-nodes = refl;
   isomorphic-root = refl;
   wide-resolvent = refl;
+  second-word = refl;
+  in-second-word = refl;
   short-prefix = refl;
   short-clauses = refl;
   short-lines = refl;
