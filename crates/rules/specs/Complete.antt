@@ -2,13 +2,13 @@
 -- proof, of bytes, proves them; and it is accepted.
 use mathlib.Core.Path.{_≡_, refl, sym, ap, _∙_, subst}
 use mathlib.Core.Bool.{Bool, true, false, _||_, true≢false, false≢true}
-use mathlib.Core.List.{List, [], _∷_, _++_, map, List·Memᴰ, List·Memᴰ·cases-cons, List·Memᴰ·not-nil}
+use mathlib.Core.List.{List, [], _∷_, map, List·Memᴰ, List·Memᴰ·cases-cons, List·Memᴰ·not-nil}
 use mathlib.Core.Logic.{_⊎_, inl, inr, _↔_}
-use Prim.Native.Nat.{ℕ, zero, suc, _-_, _/_, _%_, _^_, _≤_, _<_}
+use Prim.Native.Nat.{ℕ, zero, suc, _-_, _^_, _≤_, _<_}
 use native.Mathlib.Omega.{arith}
 use lib.Bits.{bitOr}
 use lib.Dec.{eqb}
-use lib.ListN.{length, getD, replicate}
+use lib.ListN.{length, getD, length-map}
 use borrow.Author.Tests.{eqb-true, eqb-false}
 use Rattle.rules.specs.declared.Line.{Line}
 use Rattle.rules.specs.declared.Line.the-variants.{Axiom, Resolve}
@@ -23,8 +23,8 @@ use Rattle.rules.specs.Reading.{read}
 use Rattle.rules.specs.Reading.Reading.{formula}
 use Rattle.rules.specs.ReadLaws.{read-proper}
 use Rattle.rules.specs.GoodLaws.{clause-in}
-use Rattle.rules.specs.File.{merge-proof, decoded, pair-bytes, encoded, encoded-all, file-of, announced}
-use Rattle.rules.specs.FileLaws.{decoded-encoded, announced-file, records-file, head-file}
+use Rattle.rules.specs.File.{merge-proof, decoded, encoded, file-of, announced}
+use Rattle.rules.specs.FileLaws.{All-bytes, no-bytes, Fits, decoded-encoded, announced-file, records-file, head-file, bytes-file}
 use Rattle.rules.specs.Lines.{Row, clause-number, in-set}
 use Rattle.rules.specs.Checking.{checked}
 use Rattle.rules.specs.Checking.Checked.{accepted}
@@ -159,10 +159,6 @@ module _ (F : Formula) (L : ℕ → Proof-line) (i : ℕ) where
   published-named house (inr h) = resolution-named h house
 
 -- ---- its record's numbers fit their bytes
-abbrev Fits : Line → Type 0
-Fits (Axiom c) = c < 65536
-Fits (Resolve r) = (r .a < 65536) × (r .b < 65536) × (r .pivot < 256) × (r .merge < 65536)
-
 named-fits : (F : Formula) → Proper F → (L : ℕ → Proof-line) (i : ℕ) → i ≤ lines-most → (l : Line) → Named F L i l → Fits l
 named-fits F proper L i few (Axiom c) h = omega (arith, h .number .1, proper .clauses)
 named-fits F proper L i few (Resolve r) h =
@@ -173,39 +169,6 @@ named-fits F proper L i few (Resolve r) h =
       omega (arith, v .1, p .3, proper .variables),
       members-below 16 (r .merge) (λ j e. omega (arith, h .present j e, proper .universals)),
     )
-
--- ---- bytes
-abbrev pub All-bytes : List ℕ → Type 0
-All-bytes s = (i : ℕ) → getD s i 0 < 256
-
-no-bytes : All-bytes []
-no-bytes i = omega arith
-
-one-byte : (b : ℕ) (s : List ℕ) → b < 256 → All-bytes s → All-bytes (b ∷ s)
-one-byte b s h a zero = h
-one-byte b s h a (suc i) = a i
-
-both-bytes : (s t : List ℕ) → All-bytes s → All-bytes t → All-bytes (s ++ t)
-both-bytes [] t a b = b
-both-bytes (x ∷ s) t a b = one-byte x (s ++ t) (a 0) (both-bytes s t (λ i. a (suc i)) b)
-
-pair-of-bytes : (n : ℕ) → n < 65536 → All-bytes (pair-bytes n)
-pair-of-bytes n h = one-byte (n % 256) (n / 256 ∷ []) (omega arith) (one-byte (n / 256) [] (omega arith) no-bytes)
-
-zeros : (n : ℕ) → All-bytes (replicate n 0)
-zeros zero = no-bytes
-zeros (suc n) = one-byte 0 (replicate n 0) (omega arith) (zeros n)
-
-encoded-bytes : (l : Line) → Fits l → All-bytes (encoded l)
-unfolding encoded
-encoded-bytes (Axiom c) h = one-byte 1 (pair-bytes c ++ replicate 5 0) (omega arith) (both-bytes (pair-bytes c) (replicate 5 0) (pair-of-bytes c h) (zeros 5))
-encoded-bytes (Resolve r) h =
-    let p : List ℕ = r .pivot ∷ pair-bytes (r .merge) in
-    let b : List ℕ = pair-bytes (r .b) ++ p in
-    one-byte 2 (pair-bytes (r .a) ++ b) (omega arith)
-    (both-bytes (pair-bytes (r .a)) b (pair-of-bytes (r .a) (h .0))
-    (both-bytes (pair-bytes (r .b)) p (pair-of-bytes (r .b) (h .1))
-    (one-byte (r .pivot) (pair-bytes (r .merge)) (h .2) (pair-of-bytes (r .merge) (h .3)))))
 
 -- ---- the lines of a derivation, in order
 abbrev first : Line
@@ -223,19 +186,10 @@ listed P (suc k) f = by (f 0 (omega arith)) (listed (λ i. P (suc i)) k (λ i h.
         at zero h = p
         at (suc i) h = ps i (omega arith)
 
-all-encoded-bytes : (ls : List Line) → ((i : ℕ) → i < length ls → Fits (getD ls i first)) → All-bytes (encoded-all ls)
-unfolding encoded-all
-all-encoded-bytes [] h = no-bytes
-all-encoded-bytes (l ∷ ls) h = both-bytes (encoded l) (encoded-all ls) (encoded-bytes l (h 0 (omega arith))) (all-encoded-bytes ls (λ i b. h (suc i) (omega (arith, b))))
-
 encoded-at : (ls : List Line) (i : ℕ) → i < length ls → getD (map encoded ls) i [] ≡ encoded (getD ls i first)
 encoded-at [] i h = absurd (omega arith)
 encoded-at (l ∷ ls) zero h = refl
 encoded-at (l ∷ ls) (suc i) h = encoded-at ls i (omega arith)
-
-length-map : (ls : List Line) → length (map encoded ls) ≡ length ls
-length-map [] = refl
-length-map (l ∷ ls) = ap suc (length-map ls)
 
 module _ (text : List ℕ) (F : Formula) (given : read text ≡ formula F) (L : ℕ → Proof-line) (k : ℕ) (few : k ≤ lines-most)
     (refutes : Refutation (Left-in F) F L k) (house : (i : ℕ) → 1 ≤ i → i ≤ k → One-way L i) where
@@ -251,7 +205,7 @@ module _ (text : List ℕ) (F : Formula) (given : read text ≡ formula F) (L : 
 
   follows : Follow F L (map encoded (lines .0))
   follows i h =
-      let l : i < length (lines .0) = omega (arith, h, length-map (lines .0)) in
+      let l : i < length (lines .0) = omega (arith, h, length-map (lines .0) encoded) in
       (getD (lines .0) i first, ap decoded (encoded-at (lines .0) i l) ∙ decoded-encoded (getD (lines .0) i first), lines .2 i (omega (arith, l, lines .1)))
 
   announces : announced file ≡ k
@@ -266,19 +220,9 @@ module _ (text : List ℕ) (F : Formula) (given : read text ≡ formula F) (L : 
   }
 
   bytes : All-bytes file
-  unfolding file-of
-  bytes =
-      let n : List ℕ = pair-bytes (length (lines .0)) ++ encoded-all (lines .0) in
-      let v : List ℕ = pair-bytes 1 ++ n in
-      one-byte 77 (82 ∷ 80 ∷ v) (omega arith)
-      (one-byte 82 (80 ∷ v) (omega arith)
-      (one-byte 80 v (omega arith)
-      (both-bytes (pair-bytes 1) n (pair-of-bytes 1 (omega arith))
-      (both-bytes (pair-bytes (length (lines .0))) (encoded-all (lines .0)) (pair-of-bytes (length (lines .0)) (omega (arith, lines .1, few)))
-      (all-encoded-bytes (lines .0) fit)))))
-    where
-      fit : (i : ℕ) → i < length (lines .0) → Fits (getD (lines .0) i first)
-      fit i h = named-fits F (read-proper text F given) L (suc i) (omega (arith, h, lines .1, few)) (getD (lines .0) i first) (lines .2 i (omega (arith, h, lines .1)))
+  bytes = bytes-file 77 82 80 1 (λ _. 0) [] (lines .0) universals-count refl
+      (omega arith) (omega arith) (omega arith) (omega arith) no-bytes (omega (arith, lines .1, few))
+      first (λ i h. named-fits F (read-proper text F given) L (suc i) (omega (arith, h, lines .1, few)) (getD (lines .0) i first) (lines .2 i (omega (arith, h, lines .1))))
 
 -- a line that a record names keeps the house rule
 named-one-way : (F : Formula) → Proper F → (L : ℕ → Proof-line) (i : ℕ) (l : Line) → Named F L i l → One-way L i

@@ -1,11 +1,11 @@
 -- A line goes into the file and comes back; the records of a file of lines are those lines, and its head passes.
 use mathlib.Core.Path.{_≡_, refl, sym, ap, _∙_}
 use mathlib.Core.Bool.{Bool, true, false, not, _&&_, _||_, false≢true}
-use mathlib.Core.List.{List, [], _∷_, map}
+use mathlib.Core.List.{List, [], _∷_, _++_, map}
 use Prim.Native.Nat.{ℕ, zero, suc, _+_, _*_, _/_, _%_, _≤_, _<_}
 use native.Mathlib.Omega.{arith}
 use lib.Dec.{eqb, ltb}
-use lib.ListN.{length, getD, take, drop, length-append}
+use lib.ListN.{length, getD, take, drop, replicate, length-append}
 use lib.Seq.{take-at, drop-at, drop-drop}
 use borrow.Author.Tests.{eq-eqb, ne-eqb, eqb-true, eqb-false, le-ltb}
 use Rattle.rules.specs.declared.Resolution.{Resolution}
@@ -16,7 +16,29 @@ use Rattle.rules.specs.Limits.{record-bytes, head-bytes, lines-most, bad
 use Rattle.rules.specs.Text.{spelled}
 use Rattle.rules.specs.Faults.{Fault, fault, first-of}
 use Rattle.rules.specs.Faults.Found.{passes, fails}
-use Rattle.rules.specs.File.{Form, pair-at, bare-tail, resolution-at, decoded, encoded, encoded-all, file-of, split, records, announced, head-fault}
+use Rattle.rules.specs.File.{Form, pair-at, bare-tail, resolution-at, decoded, pair-bytes, encoded, encoded-all, file-of, split, records, announced, head-fault}
+
+-- ---- bytes
+abbrev pub All-bytes : List ℕ → Type 0
+All-bytes s = (i : ℕ) → getD s i 0 < 256
+
+pub no-bytes : All-bytes []
+no-bytes i = omega arith
+
+one-byte : (b : ℕ) (s : List ℕ) → b < 256 → All-bytes s → All-bytes (b ∷ s)
+one-byte b s h a zero = h
+one-byte b s h a (suc i) = a i
+
+both-bytes : (s t : List ℕ) → All-bytes s → All-bytes t → All-bytes (s ++ t)
+both-bytes [] t a b = b
+both-bytes (x ∷ s) t a b = one-byte x (s ++ t) (a 0) (both-bytes s t (λ i. a (suc i)) b)
+
+pair-of-bytes : (n : ℕ) → n < 65536 → All-bytes (pair-bytes n)
+pair-of-bytes n h = one-byte (n % 256) (n / 256 ∷ []) (omega arith) (one-byte (n / 256) [] (omega arith) no-bytes)
+
+zeros : (n : ℕ) → All-bytes (replicate n 0)
+zeros zero = no-bytes
+zeros (suc n) = one-byte 0 (replicate n 0) (omega arith) (zeros n)
 
 -- ---- of a list of tests the first that is to be given decides
 pub first-given : (n : ℕ) (t : Bool) (fs : List Fault) → t ≡ true → first-of (fault n t ∷ fs) ≡ fails n 0
@@ -132,7 +154,7 @@ encoded-eight k a b c d e f g l ha hc hf h = first (eqb k 1) refl
     first false t = second (eqb k 2) refl (eqb-false k 1 t)
 
 -- a record of 8 bytes that decodes to a line is the line's bytes
-pub encoded-decoded : (s : List ℕ) (l : Line) → length s ≡ record-bytes → ((i : ℕ) → getD s i 0 < 256) → decoded s ≡ D.Line l → encoded l ≡ s
+pub encoded-decoded : (s : List ℕ) (l : Line) → length s ≡ record-bytes → All-bytes s → decoded s ≡ D.Line l → encoded l ≡ s
 encoded-decoded [] l n h e = absurd (omega arith)
 encoded-decoded (x0 ∷ []) l n h e = absurd (omega arith)
 encoded-decoded (x0 ∷ x1 ∷ []) l n h e = absurd (omega arith)
@@ -175,6 +197,28 @@ spelled-self : (m : List ℕ) → spelled m m ≡ true
 unfolding spelled
 spelled-self [] = refl
 spelled-self (a ∷ m) = rw (eq-eqb a a refl, spelled-self m)
+
+-- ---- the bytes of lines
+-- a line whose numbers fit the bytes of its record
+abbrev pub Fits : Line → Type 0
+Fits (L.Axiom c) = c < 65536
+Fits (L.Resolve r) = (r .a < 65536) × (r .b < 65536) × (r .pivot < 256) × (r .merge < 65536)
+
+encoded-bytes : (l : Line) → Fits l → All-bytes (encoded l)
+unfolding encoded
+encoded-bytes (L.Axiom c) h = one-byte 1 (pair-bytes c ++ replicate 5 0) (omega arith) (both-bytes (pair-bytes c) (replicate 5 0) (pair-of-bytes c h) (zeros 5))
+encoded-bytes (L.Resolve r) h =
+    let p : List ℕ = r .pivot ∷ pair-bytes (r .merge) in
+    let b : List ℕ = pair-bytes (r .b) ++ p in
+    one-byte 2 (pair-bytes (r .a) ++ b) (omega arith)
+    (both-bytes (pair-bytes (r .a)) b (pair-of-bytes (r .a) (h .0))
+    (both-bytes (pair-bytes (r .b)) p (pair-of-bytes (r .b) (h .1))
+    (one-byte (r .pivot) (pair-bytes (r .merge)) (h .2) (pair-of-bytes (r .merge) (h .3)))))
+
+all-encoded-bytes : (ls : List Line) (d : Line) → ((i : ℕ) → i < length ls → Fits (getD ls i d)) → All-bytes (encoded-all ls)
+unfolding encoded-all
+all-encoded-bytes [] d h = no-bytes
+all-encoded-bytes (l ∷ ls) d h = both-bytes (encoded l) (encoded-all ls) (encoded-bytes l (h 0 (omega arith))) (all-encoded-bytes ls d (λ i b. h (suc i) (omega (arith, b))))
 
 -- ---- the file of given lines, for a form whose mark has three bytes and what it has between head and records
 module _ (x y z version : ℕ) (width : ℕ → ℕ) (between : List ℕ) (ls : List Line) (k : ℕ) (wide : length between ≡ width k) where
@@ -222,3 +266,18 @@ module _ (x y z version : ℕ) (width : ℕ → ℕ) (between : List ℕ) (ls : 
     where
       last : List Fault
       last = fault bad-line-count (ltb (announced file) 1 || ltb lines-most (announced file)) ∷ []
+
+  -- it is a file of bytes where its mark is, its lines fit, and what stands between is
+  pub bytes-file : x < 256 → y < 256 → z < 256 → version < 65536 → All-bytes between → length ls < 65536
+      → (d : Line) → ((i : ℕ) → i < length ls → Fits (getD ls i d)) → All-bytes file
+  unfolding file-of
+  bytes-file hx hy hz hv hb hn d fit =
+      let b : List ℕ = between ++ encoded-all ls in
+      let n : List ℕ = pair-bytes (length ls) ++ b in
+      let v : List ℕ = pair-bytes version ++ n in
+      one-byte x (y ∷ z ∷ v) hx
+      (one-byte y (z ∷ v) hy
+      (one-byte z v hz
+      (both-bytes (pair-bytes version) n (pair-of-bytes version hv)
+      (both-bytes (pair-bytes (length ls)) b (pair-of-bytes (length ls) hn)
+      (both-bytes between (encoded-all ls) hb (all-encoded-bytes ls d fit))))))
