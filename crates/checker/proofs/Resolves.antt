@@ -18,7 +18,6 @@ use Rattle.rules.specs.Formula.Quant.{exists}
 use Rattle.rules.specs.FormulaLaws.{has-existentials, proper-fits}
 use Rattle.rules.specs.GoodLaws.{passes-cons, neither, earlier-iff, good-words}
 use Rattle.rules.specs.Lines.{Entry, Row, no-row, house, earlier, row-at, clause-at, result, in-set, parent-faults, set-faults, result-faults, map-faults, map-entry, each, resolution-row, unless-found, line-faults, line-row, line-made}
-use Rattle.rules.specs.Lines.Made.{refused}
 use Rattle.rules.specs.Tables.{clause-row}
 use Rattle.sets.specs.Values.{set-of, clause-of, clause-in, clause-in-row, length-clause-row}
 use Rattle.checker.specs.declared.game.Game.{Game}

@@ -2,7 +2,7 @@
 use mathlib.Core.Path.{_≡_}
 use mathlib.Core.Bool.{not, _||_}
 use mathlib.Core.List.{List, [], _∷_}
-use Prim.Native.Nat.{ℕ, _-_, _^_, _≤_}
+use Prim.Native.Nat.{ℕ, _^_, _≤_}
 use lib.Dec.{leb}
 use Rattle.rules.specs.declared.Resolution.{Resolution}
 use Rattle.rules.specs.Limits.{no-parent, no-pivot, lacks-plain, lacks-negated, no-universal, result-both-ways}

@@ -1,21 +1,19 @@
 -- Reading and checking by the tests that come before any byte is read.
 use mathlib.Core.Path.{_≡_, refl, sym, ap, _∙_, subst}
 use mathlib.Core.Bool.{Bool, true, false, _||_}
-use mathlib.Core.List.{List, []}
+use mathlib.Core.List.{List}
 use Prim.Native.Nat.{ℕ, _≤_, _<_}
-use native.Mathlib.Omega.{arith}
 use lib.Dec.{ltb}
 use lib.ListN.{length}
 use borrow.Author.Tests.{lt-ltb, le-ltb}
 use Rattle.rules.specs.declared.Reply.{Reply}
 use Rattle.rules.specs.Limits.{text-most, prefix-words, clause-words, line-words, map-words, long-text, short-table}
 use Rattle.rules.specs.Reading.{read}
-use Rattle.rules.specs.Tables.{Leaves, prefix-after, clauses-after, lines-after, nodes-after, roots-after}
-use Rattle.rules.specs.Tables.Leaves.{untouched}
+use Rattle.rules.specs.Tables.{prefix-after, clauses-after, lines-after, nodes-after, roots-after}
 use Rattle.rules.specs.Checking.{checked}
 use Rattle.rules.specs.Services.{Lent, Answer, refusal, refused-early, read-answer, check-answer, short, short-tables, reading, checking}
 use Rattle.formula.specs.declared.reading.Outcome.{Outcome}
-use Rattle.formula.specs.Readings.{reply-of, outcome-of, outcome-reply, Left}
+use Rattle.formula.specs.Readings.{reply-of, outcome-reply, Left}
 use Rattle.malintok.specs.Calls.{Read-call, Long, Answers, Check-call}
 
 -- an answer, from whether a table is short and whether the text is long

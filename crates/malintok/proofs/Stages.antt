@@ -1,14 +1,14 @@
 -- Checking past the tests for short tables and long texts: the text's answer, then the proof's, and the tables that they leave.
 use mathlib.Core.Path.{_≡_, refl, sym, ap, _∙_, subst}
 use mathlib.Core.Bool.{Bool, true, false}
-use mathlib.Core.List.{List, [], _∷_, _++_, map}
+use mathlib.Core.List.{List, []}
 use mathlib.Core.Logic.{_≢_}
-use Prim.Native.Nat.{ℕ, _+_, _*_, _≤_, _<_}
+use Prim.Native.Nat.{ℕ, _*_, _≤_, _<_}
 use native.Mathlib.Omega.{arith}
-use lib.ListN.{length, getD, drop, length-map}
+use lib.ListN.{length, getD, length-map}
 use Rattle.rules.specs.declared.Reply.{Reply}
 use Rattle.rules.specs.Limits.{prefix-words, clause-words, line-words, map-words, set-words}
-use Rattle.rules.specs.Formula.{Bound, Clause, Formula, universals, no-literal}
+use Rattle.rules.specs.Formula.{Formula, universals, no-literal}
 use Rattle.rules.specs.FormulaLaws.{proper-length, Worded}
 use Rattle.rules.specs.Faults.{Found}
 use Rattle.rules.specs.Faults.Found.{passes, fails}
@@ -21,17 +21,16 @@ use Rattle.rules.specs.Lines.{Row, house}
 use Rattle.rules.specs.Checking.{Passed, all-lines, last-empty, Checked, refutation, when-passed, proof-lines, proof-checked, checked-by, checked}
 use Rattle.rules.specs.Checking.Passed.{passed, stopped}
 use Rattle.rules.specs.Checking.Checked.{rejected, accepted}
-use Rattle.rules.specs.Tables.{bound-word, clause-row, rows-of, padded, holding, prefix-table, clause-table, prefix-after, clauses-after, lines-after, nodes-after, roots-after, Leaves, table-after}
-use Rattle.rules.specs.Tables.Leaves.{untouched, zeroed, filled}
+use Rattle.rules.specs.Tables.{bound-word, clause-row, holding, prefix-table, clause-table, prefix-after, clauses-after}
 use Rattle.rules.specs.TableLaws.{rows-length, holding-length, holding-same, holding-twice, holding-again}
 use Rattle.rules.specs.GoodLaws.{numbered-in}
 use Rattle.sets.specs.Values.{length-clause-row}
-use Rattle.rules.specs.Services.{Lent, Answer, refusal, success, read-answer, check-answer}
+use Rattle.rules.specs.Services.{Lent, refusal, success, read-answer, check-answer}
 use Rattle.rules.specs.Proper.{Proper}
 use Rattle.formula.specs.declared.reading.Outcome.{Outcome}
-use Rattle.formula.specs.Readings.{reply-of, outcome-of, outcome-reply, Left}
+use Rattle.formula.specs.Readings.{reply-of, outcome-reply, Left}
 use Rattle.checker.specs.declared.check.Findings.{Findings}
-use Rattle.checker.specs.Runs.{Blank, Kept-past}
+use Rattle.checker.specs.Runs.{Blank}
 use Rattle.checker.specs.Checks.{In-tables, Filled-tables, Checks}
 use Rattle.malintok.specs.Calls.{Long, with-lines, Answers, Proof-in}
 

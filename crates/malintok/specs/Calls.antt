@@ -10,7 +10,7 @@ use Rattle.rules.specs.Limits.{prefix-words, clause-words, line-words, map-word
 use Rattle.rules.specs.File.{merge-proof}
 use Rattle.rules.specs.Formula.{Formula}
 use Rattle.rules.specs.Lines.{house}
-use Rattle.rules.specs.Checking.{Checked, refutation, proof-checked, checked}
+use Rattle.rules.specs.Checking.{refutation, proof-checked, checked}
 use Rattle.rules.specs.Services.{Lent, Answer, success, reading, check-answer, checking, playing}
 
 -- reading the text, with these tables lent, gives this reply and leaves these tables

@@ -1,26 +1,25 @@
 -- Demands 2 and 3 read off the services alone: what an answer 0 of checking says, and what playing then gives.
-use mathlib.Core.Path.{_≡_, sym, ap, _∙_, subst}
-use mathlib.Core.Bool.{Bool, true, false, _||_}
+use mathlib.Core.Path.{_≡_, sym, ap, _∙_}
+use mathlib.Core.Bool.{true}
 use mathlib.Core.List.{List, [], _∷_}
-use Prim.Native.Nat.{ℕ, zero, suc, _+_, _-_, _*_, _≤_, _<_}
+use Prim.Native.Nat.{ℕ, suc, _+_, _-_, _*_, _≤_, _<_}
 use native.Mathlib.Omega.{arith}
 use lib.ListN.{length, getD}
 use borrow.Author.Tests.{ltb-false}
-use lib.Dec.{ltb}
 use Rattle.rules.specs.declared.Value.{Value}
 use Rattle.rules.specs.declared.Reply.{Reply}
 use Rattle.rules.specs.declared.Played.{Played}
 use Rattle.rules.specs.Limits.{universals-most, map-words, prefix-words, clause-words, line-words}
 use Rattle.rules.specs.Sets.{has}
-use Rattle.rules.specs.Formula.{Quant, Formula, False, bound-by, universals, left-of}
-use Rattle.rules.specs.Formula.Quant.{exists, forall}
-use Rattle.rules.specs.Reading.{Reading, read}
-use Rattle.rules.specs.Reading.Reading.{unread, formula}
+use Rattle.rules.specs.Formula.{Formula, False, bound-by, universals, left-of}
+use Rattle.rules.specs.Formula.Quant.{exists}
+use Rattle.rules.specs.Reading.{read}
+use Rattle.rules.specs.Reading.Reading.{formula}
 use Rattle.rules.specs.File.{announced}
 use Rattle.rules.specs.Maps.{plays, value-word}
 use Rattle.rules.specs.Lines.{Row, no-row, house, column, root-at}
-use Rattle.rules.specs.Tables.{rows-of, node-row, root-row, holding, Leaves, nodes-after, roots-after}
-use Rattle.rules.specs.Services.{Lent, Answer, success, checking, playing, short}
+use Rattle.rules.specs.Tables.{rows-of, node-row, root-row, holding, nodes-after, roots-after}
+use Rattle.rules.specs.Services.{Lent, Answer, playing, short}
 use Rattle.rules.specs.GoodLaws.{neither}
 use Rattle.rules.specs.TableLaws.{rows-length, holding-length}
 use Rattle.rules.specs.TablePlays.{nodes-wide, table-root-rows, table-plays}

@@ -1,12 +1,11 @@
 -- Cases of our own, so that each field of each word and each branch of each definition is told apart by one.
 use mathlib.Core.Path.{_≡_, refl}
-use mathlib.Core.Bool.{Bool, true, false, _&&_}
+use mathlib.Core.Bool.{Bool, true, _&&_}
 use mathlib.Core.List.{List, [], _∷_, _++_}
-use Prim.Native.Nat.{ℕ, _+_, _*_, _^_}
+use Prim.Native.Nat.{ℕ, _+_}
 use Prim.Native.String.{String}
 use lib.Dec.{eqb}
-use lib.ListN.{length, getD, replicate}
-use Rattle.rules.specs.declared.Reply.{Reply}
+use lib.ListN.{replicate}
 use Rattle.rules.specs.declared.Played.{Played}
 use Rattle.rules.specs.Bits.{bit}
 use Rattle.rules.specs.Sets.{has, with}
@@ -14,9 +13,8 @@ use Rattle.rules.specs.Faults.{Found}
 use Rattle.rules.specs.Faults.Found.{passes, fails}
 use Rattle.rules.specs.File.{merge-proof, head-fault}
 use Rattle.rules.specs.Bytes.{text, hex}
-use Rattle.rules.specs.Services.{Lent, refusal, Answer, reading, checking, playing, table-column}
-use Rattle.rules.specs.Maps.{walk, walk-over}
-use Rattle.rules.specs.Cases.{lent, prints, checks, leaves, reads, read-prefix, read-clauses, plays, G, proof-G, row-of, alone}
+use Rattle.rules.specs.Services.{refusal, reading, checking, playing}
+use Rattle.rules.specs.Cases.{prints, checks, leaves, reads, read-prefix, read-clauses, plays, G, row-of, alone}
 
 -- ---- texts: the number and the offset of the reply
 pub record Text-case : Type 0 where

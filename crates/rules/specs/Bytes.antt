@@ -1,10 +1,10 @@
 -- Bytes as 01 writes them: a text by its characters, a file in hex.
-use mathlib.Core.Bool.{Bool, true, false}
+use mathlib.Core.Bool.{true, false}
 use mathlib.Core.List.{List, [], _∷_}
 use Prim.Native.Nat.{ℕ, _+_, _-_, _*_}
-use Prim.Native.Char.{Char, code}
+use Prim.Native.Char.{code}
 use Prim.Native.String as S
-use lib.Dec.{leb, eqb}
+use lib.Dec.{leb}
 
 -- the bytes of a text of ASCII characters
 unfoldable pub text : S.String → List ℕ

@@ -1,14 +1,13 @@
 -- 01's cases marked P, from the actual bytes, as one statement.
 use mathlib.Core.Path.{_≡_, refl}
-use mathlib.Core.Bool.{Bool, true, false}
+use mathlib.Core.Bool.{false}
 use mathlib.Core.List.{List, [], _∷_, _++_}
 use Prim.Native.Nat.{ℕ, zero, suc, _-_, _*_, _+_}
 use Prim.Native.String.{String}
-use lib.ListN.{length, getD, drop, replicate}
+use lib.ListN.{drop, replicate}
 use Rattle.rules.specs.declared.Value.the-variants.{Zero}
 use Rattle.rules.specs.declared.Node.{Node}
 use Rattle.rules.specs.declared.Node.the-variants.{None, Leaf, Branch}
-use Rattle.rules.specs.declared.Reply.{Reply}
 use Rattle.rules.specs.declared.Played.{Played}
 use Rattle.rules.specs.Limits.{set-words, prefix-words, clause-words, line-words, map-words}
 use Rattle.rules.specs.Bits.{bit}
@@ -18,7 +17,7 @@ use Rattle.rules.specs.Formula.{bound-by, bound, universals, existential
 use Rattle.rules.specs.Text.{uncommented, lead, tokens, spelled, grown, sized, counting, number-of}
 use Rattle.rules.specs.Reading.{step, read-from, read}
 use Rattle.rules.specs.File.{pair-at, head-fault, split, records, decoded}
-use Rattle.rules.specs.Maps.{Isomorphic, node-word, node-of, walk-over, walk, pair, compare, visit, pass, isomorphic}
+use Rattle.rules.specs.Maps.{node-word, node-of, walk-over, walk, pair, compare, visit, pass, isomorphic}
 use Rattle.rules.specs.Lines.{row-at, each, axiom-row, select, resolution-row, line-faults, line-row, line-made, next-line}
 use Rattle.rules.specs.Checking.{lines-from, all-lines, checked-by}
 use Rattle.rules.specs.Tables.{padded, rows-of, holding, prefix-after, clauses-after}

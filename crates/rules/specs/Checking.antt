@@ -4,13 +4,12 @@ use mathlib.Core.List.{List, [], _∷_, _++_}
 use Prim.Native.Nat.{ℕ, zero, suc}
 use lib.ListN.{length}
 use Rattle.rules.specs.Limits.{not-empty}
-use Rattle.rules.specs.Faults.{Found}
 use Rattle.rules.specs.Faults.Found.{passes, fails}
 use Rattle.rules.specs.Formula.{Formula, universals, empty-clause}
-use Rattle.rules.specs.Reading.{Reading, read}
+use Rattle.rules.specs.Reading.{read}
 use Rattle.rules.specs.Reading.Reading.{unread, formula}
 use Rattle.rules.specs.File.{Form, merge-proof, head-fault, records}
-use Rattle.rules.specs.Lines.{Row, Rules, house, clause-at, Made, next-line}
+use Rattle.rules.specs.Lines.{Row, Rules, house, clause-at, next-line}
 use Rattle.rules.specs.Lines.Made.{made, refused}
 
 -- all lines pass and make these rows, or the number, the line and the variable of the first that does not

@@ -1,9 +1,8 @@
 -- Proof file (01): head, records, lines; and the other way, the file of given lines.
-use mathlib.Core.Path.{_≡_}
 use mathlib.Core.Bool.{Bool, true, false, not, _&&_, _||_}
 use mathlib.Core.List.{List, [], _∷_, _++_}
 use Prim.Native.Nat.{ℕ, zero, suc, _+_, _*_, _/_, _%_}
-use lib.Dec.{eqb, leb, ltb}
+use lib.Dec.{eqb, ltb}
 use lib.ListN.{length, getD, take, drop}
 use Rattle.rules.specs.declared.Resolution.{Resolution}
 use Rattle.rules.specs.declared.Line.{Line}
@@ -11,8 +10,7 @@ use Rattle.rules.specs.declared.Line.the-variants as L
 use Rattle.rules.specs.declared.Decoded.{Decoded}
 use Rattle.rules.specs.declared.Decoded.the-variants as D
 use Rattle.rules.specs.Limits.{head-bytes, record-bytes, lines-most, bad-mark, bad-length, bad-line-count, bad-kind, axiom-tail}
-use Rattle.rules.specs.Faults.{Fault, fault, Found, first-of}
-use Rattle.rules.specs.Faults.Found.{passes, fails}
+use Rattle.rules.specs.Faults.{fault, Found, first-of}
 use Rattle.rules.specs.Text.{spelled}
 
 -- the byte at a place, counted from 0; past the end, where nothing is asked, 0

@@ -1,16 +1,16 @@
 -- What the rows that all pass keep to, whatever stands for "left" and for select's third ground.
 use mathlib.Core.Path.{_≡_}
-use mathlib.Core.Bool.{Bool, true, false}
+use mathlib.Core.Bool.{true}
 use mathlib.Core.List.{List}
 use mathlib.Core.Logic.{_≢_}
 use Prim.Native.Nat.{ℕ, _≤_, _<_}
 use lib.ListN.{length, getD}
 use Rattle.rules.specs.declared.Node.{Node}
-use Rattle.rules.specs.declared.Node.the-variants.{None, Leaf, Branch}
+use Rattle.rules.specs.declared.Node.the-variants.{None, Branch}
 use Rattle.rules.specs.Limits.{set-words}
 use Rattle.rules.specs.Sets.{has}
-use Rattle.rules.specs.Formula.{Quant, Formula, bound-by, universals}
-use Rattle.rules.specs.Formula.Quant.{exists, forall}
+use Rattle.rules.specs.Formula.{Formula, bound-by, universals}
+use Rattle.rules.specs.Formula.Quant.{exists}
 use Rattle.rules.specs.Lines.{Row, Rules, row-at, clause-at, column, root-at}
 
 -- a node of a map for u at line i: a branch reads an existential variable left of u, and its ends are nodes before it

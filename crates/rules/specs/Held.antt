@@ -3,7 +3,7 @@ use mathlib.Core.Path.{_≡_, refl, ap, ap₂, sym, _∙_, subst, subst₂}
 use mathlib.Core.Bool.{Bool, true, false, _&&_, true≢false, false≢true}
 use mathlib.Core.List.{List, [], _∷_, _++_}
 use mathlib.Core.Logic.{inl, inr, by-cases, _↔_}
-use Prim.Native.Nat.{ℕ, zero, suc, _+_, _/_, _^_, _≤_, _<_}
+use Prim.Native.Nat.{ℕ, zero, suc, _+_, _≤_, _<_}
 use native.Mathlib.Omega.{arith}
 use native.Mathlib.Decide.{decLt}
 use lib.ListN.{length, getD}
@@ -11,7 +11,7 @@ use Rattle.rules.specs.declared.Resolution.{Resolution}
 use Rattle.rules.specs.declared.Line.{Line}
 use Rattle.rules.specs.declared.Line.the-variants.{Axiom, Resolve}
 use Rattle.rules.specs.declared.Decoded.the-variants as D
-use Rattle.rules.specs.Bits.{bit, bit-past, members-below}
+use Rattle.rules.specs.Bits.{bit-past, members-below}
 use Rattle.rules.specs.Sets.{has}
 use Rattle.rules.specs.Formula.{Clause, Formula, bound-by, universals, existentials, kept-by, resolvent}
 use Rattle.rules.specs.Formula.Quant.{exists}

@@ -1,9 +1,8 @@
 -- Lines and maps (01): the row that each line makes, and the line rules in the listed order.
-use mathlib.Core.Path.{_≡_}
 use mathlib.Core.Bool.{Bool, true, false, cond, not, _&&_, _||_}
 use mathlib.Core.List.{List, [], _∷_, _++_}
 use Prim.Native.Nat.{ℕ, zero, suc, _+_, _-_, _^_}
-use lib.Dec.{eqb, leb, ltb}
+use lib.Dec.{leb, ltb}
 use lib.ListN.{length, getD}
 use Rattle.rules.specs.declared.Value.{Value}
 use Rattle.rules.specs.declared.Value.the-variants.{Star, One, Zero}
@@ -16,11 +15,11 @@ use Rattle.rules.specs.declared.Decoded.{Decoded}
 use Rattle.rules.specs.declared.Decoded.the-variants as D
 use Rattle.rules.specs.Limits.{no-clause, no-parent, no-pivot, lacks-plain, lacks-negated, no-universal, result-both-ways, not-left, no-select}
 use Rattle.rules.specs.Bits.{bit}
-use Rattle.rules.specs.Sets.{Set, has}
+use Rattle.rules.specs.Sets.{has}
 use Rattle.rules.specs.Faults.{Fault, fault, Found, first-of}
 use Rattle.rules.specs.Faults.Found.{passes, fails}
-use Rattle.rules.specs.Formula.{Quant, Bound, Clause, Formula, bound-by, universals, existentials, left-of, no-literal, kept-by, resolvent, two-faced}
-use Rattle.rules.specs.Formula.Quant.{exists, forall}
+use Rattle.rules.specs.Formula.{Clause, Formula, bound-by, universals, existentials, left-of, no-literal, kept-by, resolvent, two-faced}
+use Rattle.rules.specs.Formula.Quant.{exists}
 use Rattle.rules.specs.Maps.{Column, star?, isomorphic}
 use Rattle.rules.specs.File.{decoded}
 

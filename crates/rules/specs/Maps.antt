@@ -1,7 +1,6 @@
 -- Lines and maps (01): nodes and their words, a map as its root in a column, playing, and isomorphism with the test that decides it.
 use mathlib.Core.Path.{_≡_}
-use mathlib.Core.Bool.{Bool, true, false, cond, not, _&&_, _||_}
-use mathlib.Core.List.{List, [], _∷_}
+use mathlib.Core.Bool.{Bool, true, false, cond, _&&_}
 use Prim.Native.Nat.{ℕ, zero, suc, _+_, _-_, _*_, _/_, _%_}
 use lib.Dec.{eqb, leb, ltb}
 use Rattle.rules.specs.declared.Value.{Value}
@@ -9,7 +8,7 @@ use Rattle.rules.specs.declared.Value.the-variants.{Star, One, Zero}
 use Rattle.rules.specs.declared.Node.{Node}
 use Rattle.rules.specs.declared.Node.the-variants.{None, Leaf, Branch}
 use Rattle.rules.specs.Limits.{variables-most, branch-mark, variable-step, end-step, set-words}
-use Rattle.rules.specs.Sets.{Set, none, has, with}
+use Rattle.rules.specs.Sets.{Set, none, with}
 use Rattle.rules.specs.Formula.{Assignment}
 
 -- ---- node words: 0 none, 1 star, 2 one, 3 zero, or 2³⁰ + (x−1)·2²⁰ + (a−1)·2¹⁰ + (b−1)

@@ -1,22 +1,20 @@
 -- Demand 2: a line that follows by the rule its record names. 004's axiom and resolution with the record's clause number, parents, pivot
 -- and merge set; 01's house rule as a conjunct of its own; select's third ground as the rules say.
 use mathlib.Core.Path.{_≡_}
-use mathlib.Core.Bool.{Bool, true, false}
+use mathlib.Core.Bool.{true, false}
 use mathlib.Core.List.{List, []}
-use mathlib.Core.Logic.{_⊎_}
 use Prim.Native.Nat.{ℕ, suc, _≤_, _<_}
 use lib.ListN.{length, getD}
 use Rattle.rules.specs.declared.Resolution.{Resolution}
 use Rattle.rules.specs.declared.Line.{Line}
 use Rattle.rules.specs.declared.Line.the-variants.{Axiom, Resolve}
-use Rattle.rules.specs.declared.Decoded.{Decoded}
 use Rattle.rules.specs.declared.Decoded.the-variants as D
 use Rattle.rules.specs.Sets.{has}
-use Rattle.rules.specs.Formula.{Quant, Clause, Formula, bound-by, universals, left-of, resolvent}
-use Rattle.rules.specs.Formula.Quant.{exists, forall}
+use Rattle.rules.specs.Formula.{Formula, bound-by, universals, left-of, resolvent}
+use Rattle.rules.specs.Formula.Quant.{exists}
 use Rattle.rules.specs.File.{decoded}
 use Rattle.rules.specs.Lines.{clause-number, in-set}
-use Rattle.rules.specs.Paper.{Map, single, falsifying-literal, Same-literals, Existential-part, Select, Merged, Proof-line}
+use Rattle.rules.specs.Paper.{single, falsifying-literal, Same-literals, Existential-part, Select, Merged, Proof-line}
 
 -- the variable of the universal at offset j
 abbrev pub universal-at : Formula → ℕ → ℕ

@@ -1,7 +1,7 @@
 -- Merge Resolution as published: source document 004, Definitions 6 to 14.
 use mathlib.Core.Path.{_≡_}
-use mathlib.Core.Bool.{Bool, true, false, cond}
-use mathlib.Core.List.{List, [], _∷_, List·Memᴰ}
+use mathlib.Core.Bool.{true, false, cond}
+use mathlib.Core.List.{List·Memᴰ}
 use mathlib.Core.Logic.{_⊎_, _≢_}
 use Prim.Native.Nat.{ℕ, zero, suc, _≤_, _<_}
 use lib.Dec.{eqb}
@@ -10,7 +10,7 @@ use Rattle.rules.specs.declared.Value.the-variants.{Star, One, Zero}
 use Rattle.rules.specs.declared.Node.{Node}
 use Rattle.rules.specs.declared.Node.the-variants.{None, Leaf, Branch}
 use Rattle.rules.specs.Sets.{has}
-use Rattle.rules.specs.Formula.{Quant, Clause, Formula, Assignment, bound-by, resolvent}
+use Rattle.rules.specs.Formula.{Clause, Formula, Assignment, bound-by, resolvent}
 use Rattle.rules.specs.Formula.Quant.{exists, forall}
 use Rattle.rules.specs.Maps.{renamed}
 

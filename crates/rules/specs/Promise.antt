@@ -1,25 +1,22 @@
 -- The promise of checking, as its caller reads it: an answer 0 means that the formula is false. And that the promise is not empty: G, and 004's Example 16.
-use mathlib.Core.Path.{_≡_, refl, sym, _∙_, ap, subst}
-use mathlib.Core.Bool.{Bool, true, false, _||_}
-use mathlib.Core.List.{List, [], _∷_, _++_}
-use Prim.Native.Nat.{ℕ, zero, suc, _≤_, _<_}
+use mathlib.Core.Path.{_≡_, refl, sym, _∙_, ap}
+use mathlib.Core.Bool.{Bool, true, false}
+use mathlib.Core.List.{List, [], _∷_}
+use Prim.Native.Nat.{ℕ, zero, _≤_}
 use native.Mathlib.Omega.{arith}
 use lib.Dec.{ltb}
-use lib.ListN.{length, replicate}
-use borrow.Author.Tests.{ltb-false}
+use lib.ListN.{length}
 use Rattle.rules.specs.declared.Value.the-variants.{Star, One, Zero}
 use Rattle.rules.specs.declared.Node.the-variants.{None, Leaf, Branch}
-use Rattle.rules.specs.declared.Reply.{Reply}
 use Rattle.rules.specs.Limits.{text-most}
-use Rattle.rules.specs.Formula.{Quant, Bound, Clause, Formula, False}
+use Rattle.rules.specs.Formula.{Bound, Clause, Formula, False}
 use Rattle.rules.specs.Formula.Quant.{exists, forall}
-use Rattle.rules.specs.Reading.{Reading, read}
-use Rattle.rules.specs.Reading.Reading.{unread, formula}
+use Rattle.rules.specs.Reading.{read}
+use Rattle.rules.specs.Reading.Reading.{formula}
 use Rattle.rules.specs.Lines.{Entry, Row}
 use Rattle.rules.specs.Checking.{Checked, checked}
 use Rattle.rules.specs.Checking.Checked.{rejected, accepted}
-use Rattle.rules.specs.Tables.{Leaves}
-use Rattle.rules.specs.Tables.Leaves.{untouched, zeroed, filled}
+use Rattle.rules.specs.Tables.Leaves.{filled}
 use Rattle.rules.specs.Services.{Lent, Answer, success, check-answer, refused-early, short-tables, checking}
 use Rattle.rules.specs.Listed.{check-listed}
 use Rattle.rules.specs.Countermodel.{accepted-false}

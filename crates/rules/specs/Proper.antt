@@ -1,6 +1,6 @@
 -- What every formula that reading gives keeps to.
 use mathlib.Core.Path.{_≡_}
-use mathlib.Core.Bool.{Bool, true, false}
+use mathlib.Core.Bool.{true}
 use mathlib.Core.List.{List, List·Memᴰ}
 use mathlib.Core.Logic.{_⊎_}
 use Prim.Native.Nat.{ℕ, _≤_, _<_}
@@ -8,7 +8,7 @@ use lib.ListN.{length, getD}
 use Rattle.rules.specs.Limits.{variables-most, universals-most, clauses-most, set-words}
 use Rattle.rules.specs.Sets.{has}
 use Rattle.rules.specs.Formula.{Quant, Bound, Clause, Formula, bound, universals}
-use Rattle.rules.specs.Formula.Quant.{exists, forall}
+use Rattle.rules.specs.Formula.Quant.{exists}
 
 -- the variable and the quantifier at a place of the prefix, counted from 0
 abbrev pub nowhere : Bound

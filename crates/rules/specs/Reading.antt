@@ -1,12 +1,12 @@
 -- Formula text (01): header, blocks, clauses, read left to right; the first faulty token decides.
-use mathlib.Core.Bool.{Bool, true, false, cond, not, _&&_, _||_}
+use mathlib.Core.Bool.{Bool, true, false, cond, not, _&&_}
 use mathlib.Core.List.{List, [], _∷_, _++_}
 use Prim.Native.Nat.{ℕ, zero, suc, _+_}
-use lib.Dec.{eqb, leb, ltb}
-use lib.IntN.{ℤ, pos, negsuc}
+use lib.Dec.{leb, ltb}
+use lib.IntN.{pos, negsuc}
 use lib.ListN.{length}
 use Rattle.rules.specs.Limits.{variables-most, universals-most, clauses-most, bad-token, header-limit, no-variable, bound-twice, too-many-universals, not-bound, both-ways, clause-count}
-use Rattle.rules.specs.Faults.{Fault, fault, Found, first-of}
+use Rattle.rules.specs.Faults.{fault, Found, first-of}
 use Rattle.rules.specs.Faults.Found.{passes, fails}
 use Rattle.rules.specs.Formula.{Quant, Bound, Clause, Formula, Literal, universal?, bound, universals, completed, no-literal, with-literal, has-opposite}
 use Rattle.rules.specs.Formula.Quant.{exists, forall}

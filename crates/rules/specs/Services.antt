@@ -1,9 +1,8 @@
 -- The three services (01): the reply and the content of each lent table, for every text, proof and table.
-use mathlib.Core.Path.{_≡_}
 use mathlib.Core.Bool.{Bool, true, false, _||_}
-use mathlib.Core.List.{List, [], _∷_}
+use mathlib.Core.List.{List, []}
 use Prim.Native.Nat.{ℕ, zero, suc, _+_, _-_, _*_}
-use lib.Dec.{eqb, leb, ltb}
+use lib.Dec.{eqb, ltb}
 use lib.ListN.{length, getD}
 use Rattle.rules.specs.declared.Reply.{Reply}
 use Rattle.rules.specs.declared.Played.{Played}
@@ -12,7 +11,6 @@ use Rattle.rules.specs.Sets.{Set, has}
 use Rattle.rules.specs.Formula.{Formula, universals}
 use Rattle.rules.specs.Maps.{Column, node-of, value-word, Walk, walk}
 use Rattle.rules.specs.Maps.Walk.{ended, broken}
-use Rattle.rules.specs.Lines.{Row}
 use Rattle.rules.specs.Reading.{Reading, read}
 use Rattle.rules.specs.Reading.Reading.{unread, formula}
 use Rattle.rules.specs.Checking.{Checked, checked}

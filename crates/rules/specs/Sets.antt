@@ -1,11 +1,11 @@
 -- Sets of variables: variable v is bit v − 1, low variables in the first word. The number of words is the list's length.
-use mathlib.Core.Bool.{Bool, true, false, not, _&&_, _||_}
+use mathlib.Core.Bool.{Bool, false, not, _&&_, _||_}
 use mathlib.Core.List.{List, [], _∷_}
-use Prim.Native.Nat.{ℕ, zero, suc, _+_, _-_, _*_, _/_, _%_, _^_}
+use Prim.Native.Nat.{ℕ, zero, suc, _-_, _*_, _/_, _%_, _^_}
 use lib.Bits.{bitAnd, bitOr}
 use lib.ListN.{length, getD, set, replicate}
 use Rattle.rules.specs.Bits.{bit}
-use Rattle.rules.specs.Limits.{word-bits, set-words}
+use Rattle.rules.specs.Limits.{word-bits}
 
 abbrev pub Set : Type 0
 Set = List ℕ

@@ -1,11 +1,11 @@
 -- Tables of rows of one width: a row read back, and a row written behind those that stand.
-use mathlib.Core.Path.{_≡_, refl, sym, ap, _∙_}
+use mathlib.Core.Path.{_≡_, sym, ap, _∙_}
 use mathlib.Core.List.{List, [], _∷_, _++_, append-assoc, append-nil}
 use Prim.Native.Nat.{ℕ, zero, suc, _+_, _-_, _*_, _≤_, _<_, zero-le}
 use native.Mathlib.Omega.{arith}
 use native.Mathlib.Nat.{mul-suc, mul-zero, mul-le-mul-left}
 use lib.ListN.{length, getD, take, drop, set, replicate, length-append, length-replicate, length-drop, List·getD-append, getD-replicate, replicate-append-replicate}
-use lib.Seq.{take-at, drop-at, drop-drop, take-append-le, drop-append-le, drop-append-add, getD-append-add, take-suc, set-at, set-split, take-all, length-take-le, append-snoc, ext-getD, getD-take, getD-drop}
+use lib.Seq.{take-at, drop-at, drop-append-add, getD-append-add, take-suc, set-at, set-split, take-all, length-take-le, append-snoc, ext-getD, getD-take, getD-drop}
 use Rattle.rules.specs.Tables.{padded, rows-of, holding}
 
 -- ---- rows of one width

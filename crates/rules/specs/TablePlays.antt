@@ -1,26 +1,24 @@
 -- The node and root tables of good rows: their words are the rows' nodes and roots, and playing a table's column is playing the rows' column.
-use mathlib.Core.Path.{_≡_, refl, sym, ap, _∙_, subst}
-use mathlib.Core.Bool.{Bool, true, false, _||_}
-use mathlib.Core.List.{List, [], _∷_, _++_, map}
-use mathlib.Core.Logic.{by-cases, _≢_}
+use mathlib.Core.Path.{_≡_, refl, sym, ap, _∙_}
+use mathlib.Core.Bool.{Bool, true, false}
+use mathlib.Core.List.{List, map}
+use mathlib.Core.Logic.{by-cases}
 use Prim.Native.Nat.{ℕ, zero, suc, _+_, _-_, _*_, _≤_, _<_}
 use native.Mathlib.Omega.{arith}
 use native.Mathlib.Decide.{decLt}
-use lib.Dec.{eqb, ltb}
 use lib.ListN.{length, getD, length-map, length-append, length-replicate, replicate, List·getD-append, List·getD-map}
 use borrow.Author.Tests.{ne-eqb, le-ltb}
-use Rattle.rules.specs.declared.Value.{Value}
 use Rattle.rules.specs.declared.Node.{Node}
 use Rattle.rules.specs.declared.Node.the-variants.{None, Leaf, Branch}
 use Rattle.rules.specs.declared.Played.{Played}
 use Rattle.rules.specs.Limits.{universals-most, lines-most, map-words, play-range}
 use Rattle.rules.specs.Sets.{Set, has}
-use Rattle.rules.specs.Formula.{Quant, Formula, bound-by, universals}
-use Rattle.rules.specs.Formula.Quant.{exists, forall}
+use Rattle.rules.specs.Formula.{Formula, universals}
+use Rattle.rules.specs.Formula.Quant.{exists}
 use Rattle.rules.specs.FormulaLaws.{bound-by-place}
-use Rattle.rules.specs.Maps.{Column, node-word, node-of, value-word, Walk, walk, plays, value-of, Reached}
+use Rattle.rules.specs.Maps.{Column, node-word, node-of, value-word, Walk, walk, plays, value-of}
 use Rattle.rules.specs.Maps.Walk.{ended, broken}
-use Rattle.rules.specs.MapLaws.{In-range, node-of-word, Sound, walk-same, walk-ends, reached-le}
+use Rattle.rules.specs.MapLaws.{In-range, node-of-word, walk-same, walk-ends, reached-le}
 use Rattle.rules.specs.Lines.{Entry, Row, no-entry, no-row, Rules, row-at, column, root-at}
 use Rattle.rules.specs.Tables.{padded, node-row, root-row, rows-of, holding}
 use Rattle.rules.specs.TableLaws.{Wide, table-word, table-past}

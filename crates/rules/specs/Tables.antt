@@ -1,10 +1,9 @@
 -- Tables (01): what each word of each table is, and what every lent table holds after every reply.
-use mathlib.Core.Bool.{Bool, true, false, cond}
 use mathlib.Core.List.{List, [], _∷_, _++_, map}
 use Prim.Native.Nat.{ℕ, _+_, _-_}
 use lib.ListN.{length, drop, replicate}
 use Rattle.rules.specs.Limits.{prefix-words, clause-words, line-words, map-words, universal-mark, universals-most}
-use Rattle.rules.specs.Formula.{Quant, Bound, Clause, Formula}
+use Rattle.rules.specs.Formula.{Bound, Clause, Formula}
 use Rattle.rules.specs.Formula.Quant.{exists, forall}
 use Rattle.rules.specs.Maps.{node-word}
 use Rattle.rules.specs.Lines.{Entry, Row}

@@ -1,8 +1,8 @@
 -- `maps::follow` meets its contract. The node number is the measure: the walk goes on at a smaller one.
-use mathlib.Core.Path.{_≡_, sym, _∙_, subst}
+use mathlib.Core.Path.{sym, _∙_, subst}
 use native.Mathlib.Omega.{arith}
 use borrow.Author.Needs.{needs}
-use Rattle.maps.specs.Playing.{next, falls as down}
+use Rattle.maps.specs.Playing.{falls as down}
 use Rattle.maps.proofs.Plays.{walk-led}
 use Prim.Native.Nat.{ℕ, _<_}
 use borrow.Fn.Kinds.{In}

@@ -4,7 +4,6 @@ use native.Mathlib.Omega.{arith}
 use lib.ListN.{getD}
 use Rattle.rules.specs.Limits.{lines-most}
 use Rattle.rules.specs.Services.{table-column}
-use Rattle.maps.specs.Comparing.{partner}
 use Rattle.maps.proofs.Pairs.{partner-at, visit-none, visit-partner}
 use borrow.Author.Needs.{needs}
 use Rattle.maps.proofs.visit_node.Statement.{statement}
