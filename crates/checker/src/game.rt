@@ -5,7 +5,7 @@ use rules::limits::ROW_WORDS;
 use rules::limits::UNIVERSAL_MARK;
 use sets::Set;
 ghost use mathlib.Core.Path.{_≡_};
-ghost use Prim.Native.Nat.{ℕ, _≤_, _<_};
+ghost use Prim.Native.Nat.{_≤_, _<_};
 ghost use lib.ListN.{length};
 ghost use Rattle.rules.specs.Limits.{universal-mark, universals-most, prefix-words};
 ghost use Rattle.rules.specs.Formula.{Formula, existentials};

@@ -15,7 +15,7 @@ ghost use Rattle.rules.specs.declared.Line.the-variants as L;
 ghost use Rattle.rules.specs.Limits.{record-bytes};
 ghost use Rattle.rules.specs.Formula.{Formula};
 ghost use Rattle.rules.specs.Lines.{Row, house, line-made, next-line};
-ghost use Rattle.checker.specs.Makes.{Makes, Whole, Standing, Ready, Ready-tables};
+ghost use Rattle.checker.specs.Makes.{Makes, Ready, Ready-tables};
 
 // The resolution r at line i.
 fn resolution_line(

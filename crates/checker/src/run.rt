@@ -1,5 +1,4 @@
 // All lines in order: each made after the rows before it, and written into its row.
-use crate::axioms::Made;
 use crate::game::Game;
 use crate::lines as line;
 use crate::rows;
@@ -9,8 +8,7 @@ use rules::limits::RECORD_BYTES;
 use rules::limits::ROW_WORDS;
 use sets::Clause;
 ghost use mathlib.Core.Path.{_≡_};
-ghost use mathlib.Core.List.{[]};
-ghost use Prim.Native.Nat.{ℕ, _+_, _*_, _≤_, _<_};
+ghost use Prim.Native.Nat.{_+_, _*_, _≤_, _<_};
 ghost use lib.ListN.{length, drop};
 ghost use Rattle.rules.specs.Limits.{
   set-words,
@@ -25,7 +23,7 @@ ghost use Rattle.rules.specs.Formula.{Formula};
 ghost use Rattle.rules.specs.File.{split};
 ghost use Rattle.rules.specs.Lines.{house};
 ghost use Rattle.rules.specs.Checking.{all-lines};
-ghost use Rattle.rules.specs.Tables.{clause-row, holding};
+ghost use Rattle.rules.specs.Tables.{clause-row};
 ghost use Rattle.sets.specs.Values.{clause-of};
 ghost use Rattle.checker.specs.Makes.{Whole};
 ghost use Rattle.checker.specs.Runs.{with-row, Blank, Ran};

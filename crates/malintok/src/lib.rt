@@ -15,7 +15,6 @@ use rules::limits::PREFIX_WORDS;
 use rules::limits::SHORT_TABLE;
 use rules::limits::TEXT_MOST;
 use sets::Set;
-ghost use Rattle.rules.specs.Services.{Lent};
 ghost use Rattle.malintok.specs.Calls.{Read-call, Check-call, Play-call};
 
 // Reads a formula's text into the prefix and clause tables.
