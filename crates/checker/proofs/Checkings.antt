@@ -7,18 +7,20 @@ use native.Mathlib.Omega.{arith}
 use lib.Dec.{ltb}
 use lib.ListN.{length, drop}
 use borrow.Author.Tests.{not-false, eqb-true, ltb-false}
-use Rattle.rules.specs.Limits.{lines-most, head-bytes, bad-mark, bad-length, bad-line-count}
-use Rattle.rules.specs.Faults.{Fault, fault, Found, first-of}
-use Rattle.rules.specs.Faults.Found.{passes, fails}
-use Rattle.rules.specs.Formula.{Formula, universals, empty-clause}
-use Rattle.rules.specs.Proper.{Proper}
-use Rattle.rules.specs.File.{merge-proof, announced, head-fault, split, records}
-use Rattle.rules.specs.FileLaws.{length-split}
-use Rattle.rules.specs.Lines.{Row, clause-at, house}
-use Rattle.rules.specs.GoodLaws.{neither, all-derived}
-use Rattle.rules.specs.Checking.{Passed, all-lines, last-empty, refutation, when-passed, proof-checked}
-use Rattle.rules.specs.Checking.Passed.{passed, stopped}
-use Rattle.rules.specs.Checking.Checked.{rejected, accepted}
+use Rattle.rules.specs.definitions.Limits.{lines-most}
+use Rattle.rules.specs.definitions.Layout.{head-bytes}
+use Rattle.rules.specs.definitions.Refusals.{bad-mark, bad-length, bad-line-count}
+use Rattle.rules.specs.definitions.Faults.{Fault, fault, Found, first-of}
+use Rattle.rules.specs.definitions.Faults.Found.{passes, fails}
+use Rattle.rules.specs.definitions.Formula.{Formula, universals, empty-clause}
+use Rattle.rules.specs.statements.Proper.{Proper}
+use Rattle.rules.specs.definitions.File.{merge-proof, announced, head-fault, split, records}
+use Rattle.theory.specs.laws.File.{length-split}
+use Rattle.rules.specs.definitions.Lines.{Row, clause-at, house}
+use Rattle.theory.specs.laws.Lines.{neither, all-derived}
+use Rattle.rules.specs.definitions.Checking.{Passed, all-lines, last-empty, refutation, when-passed, proof-checked}
+use Rattle.rules.specs.definitions.Checking.Passed.{passed, stopped}
+use Rattle.rules.specs.definitions.Checking.Checked.{rejected, accepted}
 use Rattle.sets.specs.declared.Clause.{Clause}
 use Rattle.sets.specs.Values.{clause-of}
 use Rattle.proof.specs.declared.Head.the-variants as H

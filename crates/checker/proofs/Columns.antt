@@ -3,10 +3,12 @@ use mathlib.Core.Path.{_≡_, refl, sym, ap, _∙_}
 use mathlib.Core.Bool.{Bool, true, false}
 use Prim.Native.Nat.{ℕ, _≤_, _<_}
 use native.Mathlib.Omega.{arith}
-use Rattle.rules.specs.Maps.{Column, Reached, renamed, Isomorphic, isomorphic}
-use Rattle.rules.specs.Maps.Reached.{root, low, high}
-use Rattle.rules.specs.MapLaws.{Sound, reached-le, reached-same}
-use Rattle.rules.specs.Pairings.{test-decides}
+use Rattle.rules.specs.definitions.Maps.{Column, Reached, renamed, Isomorphic}
+use Rattle.rules.specs.definitions.Comparing.{isomorphic}
+use Rattle.rules.specs.definitions.Maps.Reached.{root, low, high}
+use Rattle.rules.specs.statements.Sound.{Sound}
+use Rattle.theory.specs.laws.Maps.{reached-le, reached-same}
+use Rattle.theory.specs.laws.Comparing.{test-decides}
 
 -- two tests that each give the other are one
 same-test : (s t : Bool) → (s ≡ true → t ≡ true) → (t ≡ true → s ≡ true) → s ≡ t

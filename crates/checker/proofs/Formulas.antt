@@ -7,20 +7,21 @@ use lib.ListN.{length, getD, take}
 use lib.Seq.{take-at}
 use borrow.Author.Tests.{lt-ltb, le-ltb}
 use Rattle.rules.specs.declared.Line.the-variants as L
-use Rattle.rules.specs.Limits.{set-words, clause-words, clauses-most, universals-most}
-use Rattle.rules.specs.Faults.{first-of}
-use Rattle.rules.specs.Formula.{Formula, universals, existentials, no-literal, kept-by}
-use Rattle.rules.specs.FormulaLaws.{Worded}
-use Rattle.rules.specs.Proper.{Proper}
-use Rattle.rules.specs.GoodLaws.{numbered-in, line-follows}
-use Rattle.rules.specs.Lines.{Row, house, clause-number, leaf-entry, each, axiom-row, line-faults, line-row, line-made}
-use Rattle.rules.specs.Tables.{padded, clause-row}
+use Rattle.rules.specs.definitions.Layout.{set-words, clause-words}
+use Rattle.rules.specs.definitions.Limits.{clauses-most, universals-most}
+use Rattle.rules.specs.definitions.Faults.{first-of}
+use Rattle.rules.specs.definitions.Formula.{Formula, universals, existentials, no-literal, kept-by}
+use Rattle.theory.specs.laws.Formula.{Worded}
+use Rattle.rules.specs.statements.Proper.{Proper}
+use Rattle.theory.specs.laws.Lines.{numbered-in, line-follows}
+use Rattle.rules.specs.definitions.Lines.{Row, house, clause-number, leaf-entry, each, axiom-row, line-faults, line-row, line-made}
+use Rattle.rules.specs.definitions.Tables.{padded, clause-row}
 use Rattle.sets.specs.Values.{set-of, clause-of, clause-in, clause-in-row, length-clause-row}
 use Rattle.checker.specs.declared.game.Game.{Game}
 use Rattle.checker.specs.declared.axioms.Made.{Made}
 use Rattle.checker.specs.Rows.{clause-part, players, Row-of}
 use Rattle.checker.specs.Makes.{Makes, Whole}
-use Rattle.rules.specs.TableLaws.{Wide, table-part}
+use Rattle.theory.specs.laws.Tables.{Wide, table-part}
 
 -- a clause of the matrix has its words
 clause-worded : (F : Formula) → Proper F → (i : ℕ) → i < length (F .matrix) → Worded (getD (F .matrix) i no-literal)

@@ -11,20 +11,21 @@ use lib.Dec.{eqb}
 use lib.ListN.{length, getD, take, drop, set, replicate, length-append, length-drop, length-map, length-set, List·getD-map, drop-of-length-le, List·getD-append, take-append-drop}
 use lib.Seq.{drop-cons, take-suc, take-all, getD-set-same, getD-set-other, getD-append-seam, take-at}
 use borrow.Author.Tests.{eq-eqb, ne-eqb, le-leb, lt-leb}
-use Rattle.rules.specs.Limits.{prefix-words, universal-mark, variables-most, universals-most, word-bits, set-words}
-use Rattle.rules.specs.Sets.{none, has, with}
-use Rattle.rules.specs.Sets.{Set as Variables}
-use Rattle.rules.specs.SetLaws.{has-with, has-none}
-use Rattle.rules.specs.Formula.{Quant, Bound, Formula, bound, universals, existentials, left-of}
-use Rattle.rules.specs.Formula.Quant.{exists, forall}
-use Rattle.rules.specs.FormulaLaws.{eqb-comm, place-bound, bound-snoc, universals-append, universals-exists, universals-forall, existentials-exists, existentials-forall, distinct-tail}
-use Rattle.rules.specs.Proper.{nowhere, var-at, Distinct}
-use Rattle.rules.specs.Tables.{padded, holding, bound-word}
+use Rattle.rules.specs.definitions.Layout.{prefix-words, universal-mark, word-bits, set-words}
+use Rattle.rules.specs.definitions.Limits.{variables-most, universals-most}
+use Rattle.rules.specs.definitions.Sets.{none, has, with}
+use Rattle.rules.specs.definitions.Sets.{Set as Variables}
+use Rattle.theory.specs.laws.Sets.{has-with, has-none}
+use Rattle.rules.specs.definitions.Formula.{Quant, Bound, Formula, bound, universals, existentials, left-of}
+use Rattle.rules.specs.definitions.Formula.Quant.{exists, forall}
+use Rattle.theory.specs.laws.Formula.{eqb-comm, place-bound, bound-snoc, universals-append, universals-exists, universals-forall, existentials-exists, existentials-forall, distinct-tail}
+use Rattle.rules.specs.statements.Proper.{nowhere, var-at, Distinct}
+use Rattle.rules.specs.definitions.Tables.{padded, holding, bound-word}
 use Rattle.sets.specs.declared.Set.{Set}
 use Rattle.sets.specs.Values.{set-of}
 use Rattle.checker.specs.declared.game.Game.{Game}
 use Rattle.checker.specs.Game.{Prefixed, Narrow, with-word, left-set, Game-of, Bound-first, Bound-more, More-exists, More-forall}
-use Rattle.rules.specs.TableLaws.{holding-at, holding-past, padded-more}
+use Rattle.theory.specs.laws.Tables.{holding-at, holding-past, padded-more}
 
 -- ---- left of a place of the prefix are the variables before it
 pub left-taken : (Q : List Bound) → Distinct Q → (p x : ℕ) → p < length Q → left-of Q x (var-at Q p) ≡ bound (take p Q) x

@@ -9,14 +9,15 @@ use lib.Pow.{pow-lt}
 use lib.ListN.{length}
 use borrow.Author.Tests.{le-leb, lt-leb}
 use Rattle.rules.specs.declared.Resolution.{Resolution}
-use Rattle.rules.specs.Limits.{set-words, line-words, lines-most, variables-most, universals-most}
-use Rattle.rules.specs.Sets.{has}
-use Rattle.rules.specs.Sets.{Set as Variables}
-use Rattle.rules.specs.SetLaws.{has-range}
-use Rattle.rules.specs.Faults.{first-of}
-use Rattle.rules.specs.Formula.{two-faced}
-use Rattle.rules.specs.Lines.{earlier}
-use Rattle.rules.specs.GoodLaws.{earlier-iff}
+use Rattle.rules.specs.definitions.Layout.{set-words, line-words}
+use Rattle.rules.specs.definitions.Limits.{lines-most, variables-most, universals-most}
+use Rattle.rules.specs.definitions.Sets.{has}
+use Rattle.rules.specs.definitions.Sets.{Set as Variables}
+use Rattle.theory.specs.laws.Sets.{has-range}
+use Rattle.rules.specs.definitions.Faults.{first-of}
+use Rattle.rules.specs.definitions.Formula.{two-faced}
+use Rattle.rules.specs.definitions.Lines.{earlier}
+use Rattle.theory.specs.laws.Lines.{earlier-iff}
 use Rattle.sets.specs.declared.Set.{Set}
 use Rattle.sets.specs.Values.{set-of, clause-of, length-set-of}
 use Rattle.checker.specs.declared.resolutions.Joined.{Joined}

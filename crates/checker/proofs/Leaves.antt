@@ -7,12 +7,12 @@ use native.Mathlib.Nat.{mul-comm, mul-suc}
 use native.Mathlib.Numerals.{add-one}
 use lib.ListN.{length, getD, take, drop, set, length-map, List·getD-map}
 use lib.Seq.{getD-take, length-take-le}
-use Rattle.rules.specs.Limits.{universals-most}
-use Rattle.rules.specs.Maps.{node-word}
-use Rattle.rules.specs.Lines.{Entry, no-entry, each}
-use Rattle.rules.specs.GoodLaws.{each-at, each-length}
-use Rattle.rules.specs.Tables.{padded}
-use Rattle.rules.specs.TableLaws.{padded-more, padded-all}
+use Rattle.rules.specs.definitions.Limits.{universals-most}
+use Rattle.rules.specs.definitions.Maps.{node-word}
+use Rattle.rules.specs.definitions.Lines.{Entry, no-entry, each}
+use Rattle.theory.specs.laws.Lines.{each-at, each-length}
+use Rattle.rules.specs.definitions.Tables.{padded}
+use Rattle.theory.specs.laws.Tables.{padded-more, padded-all}
 
 module _ (f : ℕ → ℕ → Entry) (us : List ℕ) (word : Entry → ℕ) (zero-word : word no-entry ≡ 0) where
   abbrev words : List ℕ

@@ -10,22 +10,25 @@ use borrow.Author.Count.{below-more}
 use lib.ListN.{length, getD, take, drop, set, replicate, length-append, length-replicate, List·getD-append}
 use Rattle.rules.specs.declared.Resolution.{Resolution}
 use Rattle.rules.specs.declared.Node.the-variants.{Branch}
-use Rattle.rules.specs.Limits.{universals-most, lines-most, map-words, not-left}
-use Rattle.rules.specs.Sets.{has}
-use Rattle.rules.specs.Faults.{Fault, first-of}
-use Rattle.rules.specs.Faults.Found.{fails}
-use Rattle.rules.specs.Formula.{Formula, universals}
-use Rattle.rules.specs.Formula.Quant.{exists}
-use Rattle.rules.specs.FormulaLaws.{bound-by-place}
-use Rattle.rules.specs.Maps.{Column, node-word, star?, isomorphic}
-use Rattle.rules.specs.MapLaws.{In-range, Sound}
-use Rattle.rules.specs.Lines.{Entry, Row, house, column, root-at, each, select, selected, in-set, map-fault, map-entry}
-use Rattle.rules.specs.Lines.{Selected as Kept-root}
-use Rattle.rules.specs.Lines.Selected.{kept, undefined}
-use Rattle.rules.specs.GoodLaws.{root-sound, passes-each}
-use Rattle.rules.specs.Tables.{padded, holding, node-table, root-table}
-use Rattle.rules.specs.TablePlays.{table-column-rows, table-root-rows}
-use Rattle.rules.specs.Services.{table-column}
+use Rattle.rules.specs.definitions.Limits.{universals-most, lines-most}
+use Rattle.rules.specs.definitions.Layout.{map-words}
+use Rattle.rules.specs.definitions.Refusals.{not-left}
+use Rattle.rules.specs.definitions.Sets.{has}
+use Rattle.rules.specs.definitions.Faults.{Fault, first-of}
+use Rattle.rules.specs.definitions.Faults.Found.{fails}
+use Rattle.rules.specs.definitions.Formula.{Formula, universals}
+use Rattle.rules.specs.definitions.Formula.Quant.{exists}
+use Rattle.theory.specs.laws.Formula.{bound-by-place}
+use Rattle.rules.specs.definitions.Maps.{Column, node-word, star?}
+use Rattle.rules.specs.definitions.Comparing.{isomorphic}
+use Rattle.rules.specs.statements.Sound.{In-range, Sound}
+use Rattle.rules.specs.definitions.Lines.{Entry, Row, house, column, root-at, each, select, selected, in-set, map-fault, map-entry}
+use Rattle.rules.specs.definitions.Lines.{Selected as Kept-root}
+use Rattle.rules.specs.definitions.Lines.Selected.{kept, undefined}
+use Rattle.theory.specs.laws.Lines.{root-sound, passes-each}
+use Rattle.rules.specs.definitions.Tables.{padded, holding, node-table, root-table}
+use Rattle.theory.specs.laws.Playing.{table-column-rows, table-root-rows}
+use Rattle.rules.specs.definitions.Services.{table-column}
 use Rattle.sets.specs.declared.Set.{Set}
 use Rattle.sets.specs.Values.{set-of}
 use Rattle.maps.specs.Playing.{Place}

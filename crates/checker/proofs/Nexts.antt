@@ -5,10 +5,10 @@ use Prim.Native.Nat.{ℕ, suc}
 use lib.ListN.{length}
 use Rattle.rules.specs.declared.Line.{Line}
 use Rattle.rules.specs.declared.Decoded.the-variants as D
-use Rattle.rules.specs.Formula.{Formula}
-use Rattle.rules.specs.File.{decoded}
-use Rattle.rules.specs.FileLaws.{refused-number}
-use Rattle.rules.specs.Lines.{Row, house, line-made, next-line}
+use Rattle.rules.specs.definitions.Formula.{Formula}
+use Rattle.rules.specs.definitions.File.{decoded}
+use Rattle.theory.specs.laws.File.{refused-number}
+use Rattle.rules.specs.definitions.Lines.{Row, house, line-made, next-line}
 use Rattle.checker.specs.declared.axioms.Made.{Made}
 use Rattle.checker.specs.Makes.{Makes}
 

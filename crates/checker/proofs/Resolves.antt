@@ -8,17 +8,17 @@ use lib.ListN.{length}
 use borrow.Author.Tests.{not-false}
 use Rattle.rules.specs.declared.Resolution.{Resolution}
 use Rattle.rules.specs.declared.Line.the-variants as L
-use Rattle.rules.specs.Limits.{set-words, line-words}
-use Rattle.rules.specs.Sets.{has}
-use Rattle.rules.specs.Faults.{Fault, Found, first-of}
-use Rattle.rules.specs.Faults.Found.{passes, fails}
-use Rattle.rules.specs.Formula.{Formula, bound-by, universals, existentials, resolvent}
-use Rattle.rules.specs.Formula.{Clause as Literals}
-use Rattle.rules.specs.Formula.Quant.{exists}
-use Rattle.rules.specs.FormulaLaws.{has-existentials, proper-fits}
-use Rattle.rules.specs.GoodLaws.{passes-cons, neither, earlier-iff, good-words}
-use Rattle.rules.specs.Lines.{Entry, Row, no-row, house, earlier, row-at, clause-at, result, in-set, parent-faults, set-faults, result-faults, map-faults, map-entry, each, resolution-row, unless-found, line-faults, line-row, line-made}
-use Rattle.rules.specs.Tables.{clause-row}
+use Rattle.rules.specs.definitions.Layout.{set-words, line-words}
+use Rattle.rules.specs.definitions.Sets.{has}
+use Rattle.rules.specs.definitions.Faults.{Fault, Found, first-of}
+use Rattle.rules.specs.definitions.Faults.Found.{passes, fails}
+use Rattle.rules.specs.definitions.Formula.{Formula, bound-by, universals, existentials, resolvent}
+use Rattle.rules.specs.definitions.Formula.{Clause as Literals}
+use Rattle.rules.specs.definitions.Formula.Quant.{exists}
+use Rattle.theory.specs.laws.Formula.{has-existentials, proper-fits}
+use Rattle.theory.specs.laws.Lines.{passes-cons, neither, earlier-iff, good-words}
+use Rattle.rules.specs.definitions.Lines.{Entry, Row, no-row, house, earlier, row-at, clause-at, result, in-set, parent-faults, set-faults, result-faults, map-faults, map-entry, each, resolution-row, unless-found, line-faults, line-row, line-made}
+use Rattle.rules.specs.definitions.Tables.{clause-row}
 use Rattle.sets.specs.Values.{set-of, clause-of, clause-in, clause-in-row, length-clause-row}
 use Rattle.checker.specs.declared.game.Game.{Game}
 use Rattle.checker.specs.declared.axioms.Made.{Made}
@@ -28,7 +28,7 @@ use Rattle.checker.specs.Rows.{clause-part}
 use Rattle.checker.specs.Makes.{Makes, Standing, Ready}
 use Rattle.checker.specs.Resolutions.{table-result, clause-tests, Joins}
 use Rattle.checker.specs.MapRows.{Resolving, Maps-made}
-use Rattle.rules.specs.TableLaws.{Wide, table-part}
+use Rattle.theory.specs.laws.Tables.{Wide, table-part}
 
 -- ---- tests in a row: the first part decides, or passes and leaves it to the second
 first-fails : (fs gs : List Fault) (n v : ℕ) → first-of fs ≡ fails n v → first-of (fs ++ gs) ≡ fails n v

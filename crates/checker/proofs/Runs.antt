@@ -8,20 +8,21 @@ use native.Mathlib.Numerals.{add-one}
 use lib.ListN.{length, getD, take, drop, length-map, length-drop, drop-of-length-le}
 use lib.Seq.{drop-cons, drop-drop, length-take-le}
 use borrow.Rule.Slice.PartMut.{putMid}
-use Rattle.rules.specs.Limits.{set-words, universals-most, lines-most, line-words, map-words, head-bytes, record-bytes}
-use Rattle.rules.specs.Formula.{Formula, universals}
-use Rattle.rules.specs.Proper.{Proper}
-use Rattle.rules.specs.File.{split}
-use Rattle.rules.specs.FileLaws.{length-split, split-at}
-use Rattle.rules.specs.Good.{Good}
-use Rattle.rules.specs.GoodLaws.{row-new, good-next, good-words, rows-grown}
-use Rattle.rules.specs.Maps.{node-word}
-use Rattle.rules.specs.Lines.{Entry, Row, no-row, row-at, house, next-line}
-use Rattle.rules.specs.Lines.{Made as Outcome}
-use Rattle.rules.specs.Lines.Made.{made, refused}
-use Rattle.rules.specs.Checking.{lines-from, all-lines}
-use Rattle.rules.specs.Checking.Passed.{stopped}
-use Rattle.rules.specs.Tables.{padded, holding, rows-of, clause-row, node-row, root-row, line-table, node-table, root-table}
+use Rattle.rules.specs.definitions.Layout.{set-words, line-words, map-words, head-bytes, record-bytes}
+use Rattle.rules.specs.definitions.Limits.{universals-most, lines-most}
+use Rattle.rules.specs.definitions.Formula.{Formula, universals}
+use Rattle.rules.specs.statements.Proper.{Proper}
+use Rattle.rules.specs.definitions.File.{split}
+use Rattle.theory.specs.laws.File.{length-split, split-at}
+use Rattle.rules.specs.statements.Good.{Good}
+use Rattle.theory.specs.laws.Lines.{row-new, good-next, good-words, rows-grown}
+use Rattle.rules.specs.definitions.Maps.{node-word}
+use Rattle.rules.specs.definitions.Lines.{Entry, Row, no-row, row-at, house, next-line}
+use Rattle.rules.specs.definitions.Lines.{Made as Outcome}
+use Rattle.rules.specs.definitions.Lines.Made.{made, refused}
+use Rattle.rules.specs.definitions.Checking.{lines-from, all-lines}
+use Rattle.rules.specs.definitions.Checking.Passed.{stopped}
+use Rattle.rules.specs.definitions.Tables.{padded, holding, rows-of, clause-row, node-row, root-row, line-table, node-table, root-table}
 use Rattle.sets.specs.Values.{clause-of, length-clause-row}
 use Rattle.checker.specs.declared.game.Game.{Game}
 use Rattle.checker.specs.declared.axioms.Made.{Made}
@@ -29,7 +30,7 @@ use Rattle.checker.specs.declared.run.Verdict.{Verdict}
 use Rattle.checker.specs.Rows.{Row-of}
 use Rattle.checker.specs.Makes.{Makes, Whole, Standing, Ready}
 use Rattle.checker.specs.Runs.{with-row, Blank, Kept-past, Ran, So-far}
-use Rattle.rules.specs.TableLaws.{rows-snoc, holding-put, padded-length, Wide, rows-length, holding-drop}
+use Rattle.theory.specs.laws.Tables.{rows-snoc, holding-put, padded-length, Wide, rows-length, holding-drop}
 use Rattle.checker.proofs.Tables.{came-back}
 
 -- ---- a row of a table, lent and written

@@ -2,11 +2,12 @@
 use mathlib.Core.Path.{_≡_, sym, ap, _∙_}
 use mathlib.Core.Bool.{true, false}
 use Prim.Native.Nat.{ℕ, _≤_}
-use Rattle.rules.specs.Maps.{Column, star?, isomorphic}
-use Rattle.rules.specs.MapLaws.{Sound}
-use Rattle.rules.specs.Pairings.{isomorphic-self}
-use Rattle.rules.specs.Lines.{select}
-use Rattle.rules.specs.Lines.Selected.{kept, undefined}
+use Rattle.rules.specs.definitions.Maps.{Column, star?}
+use Rattle.rules.specs.definitions.Comparing.{isomorphic}
+use Rattle.rules.specs.statements.Sound.{Sound}
+use Rattle.theory.specs.laws.Comparing.{isomorphic-self}
+use Rattle.rules.specs.definitions.Lines.{select}
+use Rattle.rules.specs.definitions.Lines.Selected.{kept, undefined}
 use Rattle.checker.specs.Selects.{house-select}
 
 module _ (T : Column) (a b : ℕ) where

@@ -3,14 +3,15 @@ use mathlib.Core.Path.{_≡_}
 use mathlib.Core.List.{List, []}
 use Prim.Native.Nat.{ℕ, _+_, _*_, _≤_}
 use lib.ListN.{length, drop}
-use Rattle.rules.specs.Limits.{prefix-words, clause-words, line-words, map-words, lines-most, head-bytes, record-bytes}
-use Rattle.rules.specs.Formula.{Formula}
-use Rattle.rules.specs.Proper.{Proper}
-use Rattle.rules.specs.File.{split}
-use Rattle.rules.specs.Lines.{house}
-use Rattle.rules.specs.Checking.{Checked, all-lines, when-passed, refutation}
-use Rattle.rules.specs.Checking.Checked.{rejected, accepted}
-use Rattle.rules.specs.Tables.{holding, prefix-table, clause-table, line-table, node-table, root-table}
+use Rattle.rules.specs.definitions.Layout.{prefix-words, clause-words, line-words, map-words, head-bytes, record-bytes}
+use Rattle.rules.specs.definitions.Limits.{lines-most}
+use Rattle.rules.specs.definitions.Formula.{Formula}
+use Rattle.rules.specs.statements.Proper.{Proper}
+use Rattle.rules.specs.definitions.File.{split}
+use Rattle.rules.specs.definitions.Lines.{house}
+use Rattle.rules.specs.definitions.Checking.{Checked, all-lines, when-passed, refutation}
+use Rattle.rules.specs.definitions.Checking.Checked.{rejected, accepted}
+use Rattle.rules.specs.definitions.Tables.{holding, prefix-table, clause-table, line-table, node-table, root-table}
 use Rattle.checker.specs.declared.check.Findings.{Findings}
 use Rattle.checker.specs.Runs.{Kept-past}
 

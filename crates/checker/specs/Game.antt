@@ -5,12 +5,13 @@ use mathlib.Core.List.{List, []}
 use Prim.Native.Nat.{ℕ, _+_, _-_, _≤_, _<_}
 use lib.Dec.{eqb, leb}
 use lib.ListN.{length, getD, set, take}
-use Rattle.rules.specs.Limits.{prefix-words, universal-mark, variables-most, universals-most}
-use Rattle.rules.specs.Sets.{has, with}
-use Rattle.rules.specs.Sets.{Set as Variables}
-use Rattle.rules.specs.Formula.{Bound, Formula, bound, universals, existentials, left-of}
-use Rattle.rules.specs.Proper.{Proper}
-use Rattle.rules.specs.Tables.{padded, holding, prefix-table}
+use Rattle.rules.specs.definitions.Layout.{prefix-words, universal-mark}
+use Rattle.rules.specs.definitions.Limits.{variables-most, universals-most}
+use Rattle.rules.specs.definitions.Sets.{has, with}
+use Rattle.rules.specs.definitions.Sets.{Set as Variables}
+use Rattle.rules.specs.definitions.Formula.{Bound, Formula, bound, universals, existentials, left-of}
+use Rattle.rules.specs.statements.Proper.{Proper}
+use Rattle.rules.specs.definitions.Tables.{padded, holding, prefix-table}
 use Rattle.sets.specs.declared.Set.{Set}
 use Rattle.sets.specs.Values.{set-of}
 use Rattle.checker.specs.declared.game.Game.{Game}

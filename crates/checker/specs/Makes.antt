@@ -3,14 +3,15 @@ use mathlib.Core.Path.{_≡_}
 use mathlib.Core.List.{List, []}
 use Prim.Native.Nat.{ℕ, suc, _≤_}
 use lib.ListN.{length}
-use Rattle.rules.specs.Limits.{clause-words, line-words, map-words, lines-most}
-use Rattle.rules.specs.Formula.{Formula}
-use Rattle.rules.specs.Proper.{Proper}
-use Rattle.rules.specs.Good.{Good}
-use Rattle.rules.specs.Lines.{Row, house}
-use Rattle.rules.specs.Lines.{Made as Outcome}
-use Rattle.rules.specs.Lines.Made.{made, refused}
-use Rattle.rules.specs.Tables.{holding, clause-table, line-table, node-table, root-table}
+use Rattle.rules.specs.definitions.Layout.{clause-words, line-words, map-words}
+use Rattle.rules.specs.definitions.Limits.{lines-most}
+use Rattle.rules.specs.definitions.Formula.{Formula}
+use Rattle.rules.specs.statements.Proper.{Proper}
+use Rattle.rules.specs.statements.Good.{Good}
+use Rattle.rules.specs.definitions.Lines.{Row, house}
+use Rattle.rules.specs.definitions.Lines.{Made as Outcome}
+use Rattle.rules.specs.definitions.Lines.Made.{made, refused}
+use Rattle.rules.specs.definitions.Tables.{holding, clause-table, line-table, node-table, root-table}
 use Rattle.sets.specs.Values.{clause-of}
 use Rattle.checker.specs.declared.game.Game.{Game}
 use Rattle.checker.specs.declared.axioms.Made.{Made}

@@ -6,18 +6,20 @@ use Prim.Native.Nat.{ℕ, suc, _+_, _-_, _*_, _≤_, _<_}
 use lib.ListN.{length, getD}
 use Rattle.rules.specs.declared.Resolution.{Resolution}
 use Rattle.rules.specs.declared.Node.the-variants.{None}
-use Rattle.rules.specs.Limits.{universals-most, lines-most, map-words, no-select}
-use Rattle.rules.specs.Sets.{has}
-use Rattle.rules.specs.Faults.{Found, first-of}
-use Rattle.rules.specs.Faults.Found.{passes, fails}
-use Rattle.rules.specs.Formula.{Formula, bound-by, universals, left-of}
-use Rattle.rules.specs.Formula.Quant.{exists}
-use Rattle.rules.specs.Proper.{Proper}
-use Rattle.rules.specs.Good.{Good}
-use Rattle.rules.specs.Maps.{node-word}
-use Rattle.rules.specs.Lines.{Entry, Row, house, defined, kept-root, each, in-set, map-fault, map-faults, map-entry}
-use Rattle.rules.specs.Lines.{Selected as Kept-root}
-use Rattle.rules.specs.Tables.{holding, node-table, root-table}
+use Rattle.rules.specs.definitions.Limits.{universals-most, lines-most}
+use Rattle.rules.specs.definitions.Layout.{map-words}
+use Rattle.rules.specs.definitions.Refusals.{no-select}
+use Rattle.rules.specs.definitions.Sets.{has}
+use Rattle.rules.specs.definitions.Faults.{Found, first-of}
+use Rattle.rules.specs.definitions.Faults.Found.{passes, fails}
+use Rattle.rules.specs.definitions.Formula.{Formula, bound-by, universals, left-of}
+use Rattle.rules.specs.definitions.Formula.Quant.{exists}
+use Rattle.rules.specs.statements.Proper.{Proper}
+use Rattle.rules.specs.statements.Good.{Good}
+use Rattle.rules.specs.definitions.Maps.{node-word}
+use Rattle.rules.specs.definitions.Lines.{Entry, Row, house, defined, kept-root, each, in-set, map-fault, map-faults, map-entry}
+use Rattle.rules.specs.definitions.Lines.{Selected as Kept-root}
+use Rattle.rules.specs.definitions.Tables.{holding, node-table, root-table}
 use Rattle.sets.specs.declared.Set.{Set}
 use Rattle.sets.specs.Values.{set-of}
 use Rattle.checker.specs.declared.maps_row.MapEntry.{MapEntry}

@@ -5,14 +5,14 @@ use mathlib.Core.List.{List, [], _∷_}
 use Prim.Native.Nat.{ℕ, _^_, _≤_}
 use lib.Dec.{leb}
 use Rattle.rules.specs.declared.Resolution.{Resolution}
-use Rattle.rules.specs.Limits.{no-parent, no-pivot, lacks-plain, lacks-negated, no-universal, result-both-ways}
-use Rattle.rules.specs.Sets.{has}
-use Rattle.rules.specs.Sets.{Set as Variables}
-use Rattle.rules.specs.Faults.{Fault, fault, Found}
-use Rattle.rules.specs.Faults.Found.{passes, fails}
-use Rattle.rules.specs.Formula.{resolvent, two-faced}
-use Rattle.rules.specs.Formula.{Clause as Literals}
-use Rattle.rules.specs.Lines.{earlier}
+use Rattle.rules.specs.definitions.Refusals.{no-parent, no-pivot, lacks-plain, lacks-negated, no-universal, result-both-ways}
+use Rattle.rules.specs.definitions.Sets.{has}
+use Rattle.rules.specs.definitions.Sets.{Set as Variables}
+use Rattle.rules.specs.definitions.Faults.{Fault, fault, Found}
+use Rattle.rules.specs.definitions.Faults.Found.{passes, fails}
+use Rattle.rules.specs.definitions.Formula.{resolvent, two-faced}
+use Rattle.rules.specs.definitions.Formula.{Clause as Literals}
+use Rattle.rules.specs.definitions.Lines.{earlier}
 use Rattle.sets.specs.Values.{clause-of}
 use Rattle.checker.specs.declared.resolutions.Joined.{Joined}
 use Rattle.checker.specs.Rows.{clause-part}

@@ -3,11 +3,12 @@ use mathlib.Core.Path.{_≡_}
 use mathlib.Core.List.{List, map}
 use Prim.Native.Nat.{ℕ, _-_, _*_}
 use lib.ListN.{take, drop}
-use Rattle.rules.specs.Limits.{set-words, universals-most}
-use Rattle.rules.specs.Formula.{Clause as Literals}
-use Rattle.rules.specs.Maps.{node-word}
-use Rattle.rules.specs.Lines.{Entry}
-use Rattle.rules.specs.Tables.{padded}
+use Rattle.rules.specs.definitions.Layout.{set-words}
+use Rattle.rules.specs.definitions.Limits.{universals-most}
+use Rattle.rules.specs.definitions.Formula.{Clause as Literals}
+use Rattle.rules.specs.definitions.Maps.{node-word}
+use Rattle.rules.specs.definitions.Lines.{Entry}
+use Rattle.rules.specs.definitions.Tables.{padded}
 use Rattle.sets.specs.Values.{clause-in}
 use Rattle.checker.specs.declared.rows.MapRow.{MapRow}
 

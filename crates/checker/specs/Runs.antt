@@ -3,12 +3,12 @@ use mathlib.Core.Path.{_≡_}
 use mathlib.Core.List.{List, [], _++_}
 use Prim.Native.Nat.{ℕ, _+_, _*_, _≤_}
 use lib.ListN.{length, take, drop}
-use Rattle.rules.specs.Limits.{line-words, map-words}
-use Rattle.rules.specs.Formula.{Formula}
-use Rattle.rules.specs.Lines.{Row, house}
-use Rattle.rules.specs.Checking.{Passed, lines-from, all-lines}
-use Rattle.rules.specs.Checking.Passed.{passed, stopped}
-use Rattle.rules.specs.Tables.{holding}
+use Rattle.rules.specs.definitions.Layout.{line-words, map-words}
+use Rattle.rules.specs.definitions.Formula.{Formula}
+use Rattle.rules.specs.definitions.Lines.{Row, house}
+use Rattle.rules.specs.definitions.Checking.{Passed, lines-from, all-lines}
+use Rattle.rules.specs.definitions.Checking.Passed.{passed, stopped}
+use Rattle.rules.specs.definitions.Tables.{holding}
 use Rattle.checker.specs.declared.run.Verdict.{Verdict}
 use Rattle.checker.specs.Makes.{Standing}
 

@@ -1,8 +1,9 @@
 -- What the select of two roots gives, by the definitions.
-use Rattle.rules.specs.Maps.{Column, isomorphic}
-use Rattle.rules.specs.Lines.{select}
-use Rattle.rules.specs.Lines.{Selected as Kept-root}
-use Rattle.rules.specs.Lines.Selected.{kept, undefined}
+use Rattle.rules.specs.definitions.Maps.{Column}
+use Rattle.rules.specs.definitions.Comparing.{isomorphic}
+use Rattle.rules.specs.definitions.Lines.{select}
+use Rattle.rules.specs.definitions.Lines.{Selected as Kept-root}
+use Rattle.rules.specs.definitions.Lines.Selected.{kept, undefined}
 use Rattle.checker.specs.declared.select.Selected.{Selected}
 use Rattle.checker.specs.declared.select.Selected.the-variants.{Kept, Undefined}
 use Prim.Native.Nat.{ℕ}

@@ -5,10 +5,10 @@ use crate::run;
 use proof::Head;
 use rules::limits::NOT_EMPTY;
 ghost use mathlib.Core.Path.{_≡_};
-ghost use Rattle.rules.specs.Formula.{Formula};
-ghost use Rattle.rules.specs.File.{merge-proof};
-ghost use Rattle.rules.specs.Lines.{house};
-ghost use Rattle.rules.specs.Checking.{refutation, proof-checked};
+ghost use Rattle.rules.specs.definitions.Formula.{Formula};
+ghost use Rattle.rules.specs.definitions.File.{merge-proof};
+ghost use Rattle.rules.specs.definitions.Lines.{house};
+ghost use Rattle.rules.specs.definitions.Checking.{refutation, proof-checked};
 ghost use Rattle.checker.specs.Runs.{Blank};
 ghost use Rattle.checker.specs.Checks.{Headed, In-tables, Filled-tables, lines-checked, Checks};
 

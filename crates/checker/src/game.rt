@@ -7,8 +7,9 @@ use sets::Set;
 ghost use mathlib.Core.Path.{_≡_};
 ghost use Prim.Native.Nat.{_≤_, _<_};
 ghost use lib.ListN.{length};
-ghost use Rattle.rules.specs.Limits.{universal-mark, universals-most, prefix-words};
-ghost use Rattle.rules.specs.Formula.{Formula, existentials};
+ghost use Rattle.rules.specs.definitions.Layout.{universal-mark, prefix-words};
+ghost use Rattle.rules.specs.definitions.Limits.{universals-most};
+ghost use Rattle.rules.specs.definitions.Formula.{Formula, existentials};
 ghost use Rattle.sets.specs.Values.{set-of};
 ghost use Rattle.checker.specs.Game.{
   Prefixed,

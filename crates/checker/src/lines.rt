@@ -12,9 +12,9 @@ ghost use mathlib.Core.List.{List};
 ghost use Prim.Native.Nat.{ℕ};
 ghost use lib.ListN.{length};
 ghost use Rattle.rules.specs.declared.Line.the-variants as L;
-ghost use Rattle.rules.specs.Limits.{record-bytes};
-ghost use Rattle.rules.specs.Formula.{Formula};
-ghost use Rattle.rules.specs.Lines.{Row, house, line-made, next-line};
+ghost use Rattle.rules.specs.definitions.Layout.{record-bytes};
+ghost use Rattle.rules.specs.definitions.Formula.{Formula};
+ghost use Rattle.rules.specs.definitions.Lines.{Row, house, line-made, next-line};
 ghost use Rattle.checker.specs.Makes.{Makes, Ready, Ready-tables};
 
 // The resolution r at line i.

@@ -12,9 +12,10 @@ use sets::Set;
 ghost use mathlib.Core.Path.{_≡_};
 ghost use Prim.Native.Nat.{_≤_};
 ghost use lib.ListN.{length};
-ghost use Rattle.rules.specs.Limits.{line-words, lines-most, universals-most};
-ghost use Rattle.rules.specs.Faults.{first-of};
-ghost use Rattle.rules.specs.Lines.{earlier};
+ghost use Rattle.rules.specs.definitions.Layout.{line-words};
+ghost use Rattle.rules.specs.definitions.Limits.{lines-most, universals-most};
+ghost use Rattle.rules.specs.definitions.Faults.{first-of};
+ghost use Rattle.rules.specs.definitions.Lines.{earlier};
 ghost use Rattle.sets.specs.Values.{set-of};
 ghost use Rattle.checker.specs.Resolutions.{clause-tests, table-result, Joins};
 

@@ -4,7 +4,8 @@ use sets::Clause;
 ghost use mathlib.Core.Path.{_≡_};
 ghost use Prim.Native.Nat.{_*_, _≤_};
 ghost use lib.ListN.{length};
-ghost use Rattle.rules.specs.Limits.{set-words, universals-most};
+ghost use Rattle.rules.specs.definitions.Layout.{set-words};
+ghost use Rattle.rules.specs.definitions.Limits.{universals-most};
 ghost use Rattle.sets.specs.Values.{clause-of};
 ghost use Rattle.checker.specs.Rows.{clause-part};
 

@@ -10,20 +10,13 @@ use sets::Clause;
 ghost use mathlib.Core.Path.{_≡_};
 ghost use Prim.Native.Nat.{_+_, _*_, _≤_, _<_};
 ghost use lib.ListN.{length, drop};
-ghost use Rattle.rules.specs.Limits.{
-  set-words,
-  universals-most,
-  lines-most,
-  line-words,
-  map-words,
-  head-bytes,
-  record-bytes,
-};
-ghost use Rattle.rules.specs.Formula.{Formula};
-ghost use Rattle.rules.specs.File.{split};
-ghost use Rattle.rules.specs.Lines.{house};
-ghost use Rattle.rules.specs.Checking.{all-lines};
-ghost use Rattle.rules.specs.Tables.{clause-row};
+ghost use Rattle.rules.specs.definitions.Layout.{set-words, line-words, map-words, head-bytes, record-bytes};
+ghost use Rattle.rules.specs.definitions.Limits.{universals-most, lines-most};
+ghost use Rattle.rules.specs.definitions.Formula.{Formula};
+ghost use Rattle.rules.specs.definitions.File.{split};
+ghost use Rattle.rules.specs.definitions.Lines.{house};
+ghost use Rattle.rules.specs.definitions.Checking.{all-lines};
+ghost use Rattle.rules.specs.definitions.Tables.{clause-row};
 ghost use Rattle.sets.specs.Values.{clause-of};
 ghost use Rattle.checker.specs.Makes.{Whole};
 ghost use Rattle.checker.specs.Runs.{with-row, Blank, Ran};

@@ -2,9 +2,9 @@
 use rules::limits::ROW_WORDS;
 ghost use mathlib.Core.Path.{_≡_};
 ghost use Prim.Native.Nat.{_+_};
-ghost use Rattle.rules.specs.Maps.{star?};
-ghost use Rattle.rules.specs.MapLaws.{Sound};
-ghost use Rattle.rules.specs.Services.{table-column};
+ghost use Rattle.rules.specs.definitions.Maps.{star?};
+ghost use Rattle.rules.specs.statements.Sound.{Sound};
+ghost use Rattle.rules.specs.definitions.Services.{table-column};
 ghost use Rattle.maps.specs.Playing.{Place};
 ghost use Rattle.checker.specs.Selects.{answered, house-select};
 

@@ -16,9 +16,10 @@ use lib.Seq.{drop-cons}
 use mir.Facts.{toZ-ofZ}
 use mir.Syntax.{w32}
 use mir.Val.{Fits, SFits, toZ, ofZ}
-use Rattle.rules.specs.Limits.{number-most, bad-token, header-limit}
-use Rattle.rules.specs.Text.{Number, digit, minus, grown, sized, counting, number-of}
-use Rattle.rules.specs.Text.Number.{number, no-number}
+use Rattle.rules.specs.definitions.Limits.{number-most}
+use Rattle.rules.specs.definitions.Refusals.{bad-token, header-limit}
+use Rattle.rules.specs.definitions.Text.{Number, digit, minus, grown, sized, counting, number-of}
+use Rattle.rules.specs.definitions.Text.Number.{number, no-number}
 use Rattle.formula.specs.declared.numbers.Literal.{Literal}
 use Rattle.formula.specs.declared.numbers.Token.{Token}
 use Rattle.formula.specs.declared.numbers.Token.the-variants as T

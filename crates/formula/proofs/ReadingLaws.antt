@@ -8,17 +8,19 @@ use lib.ListN.{length, set, take, drop, length-append}
 use lib.Seq.{drop-drop}
 use borrow.Rule.Slice.PartMut.{putMid}
 use borrow.Author.Tests.{le-leb, lt-leb}
-use Rattle.rules.specs.Limits.{set-words, prefix-words, clause-words, variables-most, clauses-most, clause-count}
-use Rattle.rules.specs.Formula as formula
-use Rattle.rules.specs.Formula.{Bound, Formula, completed}
-use Rattle.rules.specs.Text.{separator, token-byte, lead, Token, tokens, Rest, uncommented}
-use Rattle.rules.specs.Reading as reading
-use Rattle.rules.specs.Reading.{Reading, read-from, step, end-at, between-clauses, formula-of, complete}
-use Rattle.rules.specs.Reading.Reading.{unread, formula as read-formula}
-use Rattle.rules.specs.Reading.Place.{at-mark, at-cnf, at-variables, at-count, at-block, in-block, at-clause, in-clause}
-use Rattle.rules.specs.Reading.Next.{stop, go}
-use Rattle.rules.specs.Tables.{bound-word, clause-row, rows-of, holding, prefix-after, clauses-after}
-use Rattle.rules.specs.Services.{read-answer}
+use Rattle.rules.specs.definitions.Layout.{set-words, prefix-words, clause-words}
+use Rattle.rules.specs.definitions.Limits.{variables-most, clauses-most}
+use Rattle.rules.specs.definitions.Refusals.{clause-count}
+use Rattle.rules.specs.definitions.Formula as formula
+use Rattle.rules.specs.definitions.Formula.{Bound, Formula, completed}
+use Rattle.rules.specs.definitions.Text.{separator, token-byte, lead, Token, tokens, Rest, uncommented}
+use Rattle.rules.specs.definitions.Reading as reading
+use Rattle.rules.specs.definitions.Reading.{Reading, read-from, step, end-at, between-clauses, formula-of, complete}
+use Rattle.rules.specs.definitions.Reading.Reading.{unread, formula as read-formula}
+use Rattle.rules.specs.definitions.Reading.Place.{at-mark, at-cnf, at-variables, at-count, at-block, in-block, at-clause, in-clause}
+use Rattle.rules.specs.definitions.Reading.Next.{stop, go}
+use Rattle.rules.specs.definitions.Tables.{bound-word, clause-row, rows-of, holding, prefix-after, clauses-after}
+use Rattle.rules.specs.definitions.Services.{read-answer}
 use Rattle.sets.specs.declared.Clause.{Clause}
 use Rattle.sets.specs.Values.{set-of, clause-of}
 use Rattle.formula.specs.declared.states.Place.{Place}
@@ -31,7 +33,7 @@ use Rattle.formula.specs.States.{place-of, state-of, Stands, Small, Begu
 use Rattle.formula.specs.Readings.{outcome-of, outcome-refused, outcome-formula, Ends, Filled, Left}
 use Rattle.formula.proofs.TokenLaws.{from-skip, from-token, from-end, none-left}
 use Rattle.formula.proofs.StateLaws.{few-blocks, few-clauses, stands-small, stands-begin}
-use Rattle.rules.specs.TableLaws.{holding-length, holding-over, holding-word, holding-put, rows-snoc}
+use Rattle.theory.specs.laws.Tables.{holding-length, holding-over, holding-word, holding-put, rows-snoc}
 
 -- ---- the text's end
 module _ (n : ℕ) (s : State) (bs : List Bound) (cs : List formula.Clause) (h : Stands s bs cs) where

@@ -9,15 +9,16 @@ use native.Mathlib.Decide.{decLt}
 use lib.Dec.{eqb}
 use lib.ListN.{length, length-append}
 use borrow.Author.Tests.{eq-eqb, ne-eqb, le-leb, lt-leb}
-use Rattle.rules.specs.Limits.{variables-most, universals-most, clauses-most, universal-mark, set-words}
-use Rattle.rules.specs.Sets.{has}
-use Rattle.rules.specs.SetLaws.{has-none, has-with}
-use Rattle.rules.specs.Formula as formula
-use Rattle.rules.specs.Formula.{Bound, bound, universals}
-use Rattle.rules.specs.FormulaLaws.{eqb-comm, bound-snoc, length-snoc, universals-snoc-exists, universals-snoc-forall}
-use Rattle.rules.specs.Reading as reading
-use Rattle.rules.specs.Reading.Next.{go}
-use Rattle.rules.specs.Tables.{bound-word}
+use Rattle.rules.specs.definitions.Limits.{variables-most, universals-most, clauses-most}
+use Rattle.rules.specs.definitions.Layout.{universal-mark, set-words}
+use Rattle.rules.specs.definitions.Sets.{has}
+use Rattle.theory.specs.laws.Sets.{has-none, has-with}
+use Rattle.rules.specs.definitions.Formula as formula
+use Rattle.rules.specs.definitions.Formula.{Bound, bound, universals}
+use Rattle.theory.specs.laws.Formula.{eqb-comm, bound-snoc, length-snoc, universals-snoc-exists, universals-snoc-forall}
+use Rattle.rules.specs.definitions.Reading as reading
+use Rattle.rules.specs.definitions.Reading.Next.{go}
+use Rattle.rules.specs.definitions.Tables.{bound-word}
 use Rattle.sets.specs.declared.Clause.{Clause}
 use Rattle.sets.specs.Values.{set-of, clause-of}
 use Rattle.formula.specs.declared.states.Place.{Place}

@@ -8,17 +8,17 @@ use lib.Dec.{ltb}
 use lib.IntN.{ℤ, pos, negsuc}
 use lib.ListN.{length}
 use borrow.Author.Tests.{lt-ltb, le-ltb, le-leb, lt-leb, ltb-false}
-use Rattle.rules.specs.Limits.{bad-token, header-limit, no-variable, bound-twice, too-many-universals, not-bound, both-ways, clause-count}
-use Rattle.rules.specs.Faults.{Fault, fault, Found, first-of}
-use Rattle.rules.specs.Faults.Found.{passes, fails}
-use Rattle.rules.specs.Formula as formula
-use Rattle.rules.specs.Formula.{Quant, Clause, no-literal, bound, has-opposite, with-literal}
-use Rattle.rules.specs.Formula.Quant.{exists, forall}
-use Rattle.rules.specs.Text.{Number, number-of, spelled}
-use Rattle.rules.specs.Text.Number.{number, no-number}
-use Rattle.rules.specs.Reading.{State, Next, moved, unless, limited, bind, full, block-token, clause-ended, literal-token, clause-token, begin-clause, block-place, expect, step-at, step, word-a, word-e}
-use Rattle.rules.specs.Reading.Next.{stop, go}
-use Rattle.rules.specs.Reading.Place.{at-block, in-block, in-clause}
+use Rattle.rules.specs.definitions.Refusals.{bad-token, header-limit, no-variable, bound-twice, too-many-universals, not-bound, both-ways, clause-count}
+use Rattle.rules.specs.definitions.Faults.{Fault, fault, Found, first-of}
+use Rattle.rules.specs.definitions.Faults.Found.{passes, fails}
+use Rattle.rules.specs.definitions.Formula as formula
+use Rattle.rules.specs.definitions.Formula.{Quant, Clause, no-literal, bound, has-opposite, with-literal}
+use Rattle.rules.specs.definitions.Formula.Quant.{exists, forall}
+use Rattle.rules.specs.definitions.Text.{Number, number-of, spelled}
+use Rattle.rules.specs.definitions.Text.Number.{number, no-number}
+use Rattle.rules.specs.definitions.Reading.{State, Next, moved, unless, limited, bind, full, block-token, clause-ended, literal-token, clause-token, begin-clause, block-place, expect, step-at, step, word-a, word-e}
+use Rattle.rules.specs.definitions.Reading.Next.{stop, go}
+use Rattle.rules.specs.definitions.Reading.Place.{at-block, in-block, in-clause}
 use Rattle.formula.specs.declared.numbers.Literal.{Literal}
 use Rattle.formula.specs.declared.numbers.Answer.{Answer}
 use Rattle.formula.specs.declared.numbers.Answer.the-variants as A

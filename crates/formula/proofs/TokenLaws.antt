@@ -9,9 +9,9 @@ use lib.Dec.{eqb}
 use lib.ListN.{length, getD, take, drop, length-drop, drop-of-length-le}
 use lib.Seq.{drop-cons, drop-drop}
 use borrow.Author.Tests.{eq-eqb, ne-eqb}
-use Rattle.rules.specs.Text.{separator, token-byte, lead, Token, tokens, Rest, uncommented, spelled}
-use Rattle.rules.specs.FormulaLaws.{eqb-comm}
-use Rattle.rules.specs.Reading.{word-cnf}
+use Rattle.rules.specs.definitions.Text.{separator, token-byte, lead, Token, tokens, Rest, uncommented, spelled}
+use Rattle.theory.specs.laws.Formula.{eqb-comm}
+use Rattle.rules.specs.definitions.Reading.{word-cnf}
 
 -- ---- how many of the first bytes have p
 lead-yes : (p : ℕ → Bool) (b : ℕ) (l : List ℕ) → p b ≡ true → lead p (b ∷ l) ≡ suc (lead p l)

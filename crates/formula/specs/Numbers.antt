@@ -3,9 +3,9 @@ use mathlib.Core.Bool.{true, false, cond}
 use Prim.Native.Nat.{ℕ, suc}
 use lib.Dec.{ltb}
 use lib.IntN.{ℤ, pos, negsuc}
-use Rattle.rules.specs.Limits.{bad-token, header-limit}
-use Rattle.rules.specs.Text.{Number}
-use Rattle.rules.specs.Text.Number.{number, no-number}
+use Rattle.rules.specs.definitions.Refusals.{bad-token, header-limit}
+use Rattle.rules.specs.definitions.Text.{Number}
+use Rattle.rules.specs.definitions.Text.Number.{number, no-number}
 use Rattle.formula.specs.declared.numbers.Token.{Token}
 use Rattle.formula.specs.declared.numbers.Token.the-variants as T
 use Rattle.formula.specs.declared.numbers.Literal.{Literal}

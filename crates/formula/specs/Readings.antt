@@ -5,13 +5,14 @@ use Prim.Native.Nat.{ℕ, _≤_}
 use lib.ListN.{length}
 use native.Mathlib.Omega.{arith}
 use Rattle.rules.specs.declared.Reply.{Reply}
-use Rattle.rules.specs.Limits.{prefix-words, clause-words, variables-most}
-use Rattle.rules.specs.Formula.{Bound, Clause, Formula, universals}
-use Rattle.rules.specs.Reading as definition
-use Rattle.rules.specs.Reading.{Reading, read}
-use Rattle.rules.specs.Reading.Reading.{unread, formula}
-use Rattle.rules.specs.Tables.{bound-word, clause-row, rows-of, holding, prefix-after, clauses-after}
-use Rattle.rules.specs.Services.{refusal, read-answer}
+use Rattle.rules.specs.definitions.Layout.{prefix-words, clause-words}
+use Rattle.rules.specs.definitions.Limits.{variables-most}
+use Rattle.rules.specs.definitions.Formula.{Bound, Clause, Formula, universals}
+use Rattle.rules.specs.definitions.Reading as definition
+use Rattle.rules.specs.definitions.Reading.{Reading, read}
+use Rattle.rules.specs.definitions.Reading.Reading.{unread, formula}
+use Rattle.rules.specs.definitions.Tables.{bound-word, clause-row, rows-of, holding, prefix-after, clauses-after}
+use Rattle.rules.specs.definitions.Services.{refusal, read-answer}
 use Rattle.formula.specs.declared.states.State.{State}
 use Rattle.formula.specs.declared.reading.Outcome.{Outcome}
 use Rattle.formula.specs.declared.reading.Outcome.the-variants as O

@@ -4,15 +4,17 @@ use mathlib.Core.Bool.{Bool, true, false, cond}
 use mathlib.Core.List.{List, [], _∷_, _++_}
 use Prim.Native.Nat.{ℕ, zero, suc, _+_, _≤_, _<_}
 use lib.ListN.{length}
-use Rattle.rules.specs.Limits.{variables-most, universals-most, clauses-most, set-words, bad-token}
-use Rattle.rules.specs.Sets.{none, has, with}
-use Rattle.rules.specs.Formula as formula
-use Rattle.rules.specs.Formula.{Quant, Bound, bound, universals}
-use Rattle.rules.specs.Formula.Quant.{exists, forall}
-use Rattle.rules.specs.Reading as reading
-use Rattle.rules.specs.Reading.Place.{at-mark, at-cnf, at-variables, at-count, at-block, in-block, at-clause, in-clause}
-use Rattle.rules.specs.Reading.Next.{stop, go}
-use Rattle.rules.specs.Tables.{bound-word}
+use Rattle.rules.specs.definitions.Limits.{variables-most, universals-most, clauses-most}
+use Rattle.rules.specs.definitions.Layout.{set-words}
+use Rattle.rules.specs.definitions.Refusals.{bad-token}
+use Rattle.rules.specs.definitions.Sets.{none, has, with}
+use Rattle.rules.specs.definitions.Formula as formula
+use Rattle.rules.specs.definitions.Formula.{Quant, Bound, bound, universals}
+use Rattle.rules.specs.definitions.Formula.Quant.{exists, forall}
+use Rattle.rules.specs.definitions.Reading as reading
+use Rattle.rules.specs.definitions.Reading.Place.{at-mark, at-cnf, at-variables, at-count, at-block, in-block, at-clause, in-clause}
+use Rattle.rules.specs.definitions.Reading.Next.{stop, go}
+use Rattle.rules.specs.definitions.Tables.{bound-word}
 use Rattle.sets.specs.Values.{set-of, clause-of}
 use Rattle.formula.specs.declared.numbers.Answer.{Answer}
 use Rattle.formula.specs.declared.numbers.Answer.the-variants as A

@@ -8,8 +8,8 @@ ghost use Prim.Native.Nat.{_+_, _≤_, _<_};
 ghost use lib.IntN.{pos, negℤ};
 ghost use lib.Signed.{mag};
 ghost use lib.ListN.{length, drop};
-ghost use Rattle.rules.specs.Limits.{number-most};
-ghost use Rattle.rules.specs.Text as text;
+ghost use Rattle.rules.specs.definitions.Limits.{number-most};
+ghost use Rattle.rules.specs.definitions.Text as text;
 ghost use Rattle.formula.specs.Numbers.{token-of, literal-of, refused-of, answer-of, header-of};
 
 const MINUS: u8 = 45;

@@ -19,10 +19,11 @@ ghost use mathlib.Core.Bool.{false};
 ghost use mathlib.Core.List.{[], _++_};
 ghost use Prim.Native.Nat.{_+_, _*_, _≤_};
 ghost use lib.ListN.{length, take, drop};
-ghost use Rattle.rules.specs.Limits.{text-most, prefix-words, clause-words};
-ghost use Rattle.rules.specs.Text.{tokens};
-ghost use Rattle.rules.specs.Reading as definition;
-ghost use Rattle.rules.specs.Tables.{clause-row, holding};
+ghost use Rattle.rules.specs.definitions.Limits.{text-most};
+ghost use Rattle.rules.specs.definitions.Layout.{prefix-words, clause-words};
+ghost use Rattle.rules.specs.definitions.Text.{tokens};
+ghost use Rattle.rules.specs.definitions.Reading as definition;
+ghost use Rattle.rules.specs.definitions.Tables.{clause-row, holding};
 ghost use Rattle.sets.specs.Values.{clause-of};
 ghost use Rattle.formula.specs.Readings.{Ends, Filled, Left};
 

@@ -20,9 +20,9 @@ use sets::Set;
 ghost use mathlib.Core.Path.{_≡_};
 ghost use mathlib.Core.Bool.{true, false};
 ghost use Prim.Native.Nat.{_+_, _≤_, _<_};
-ghost use Rattle.rules.specs.Limits.{variables-most, clauses-most};
-ghost use Rattle.rules.specs.Text.{number-of};
-ghost use Rattle.rules.specs.Reading as reading;
+ghost use Rattle.rules.specs.definitions.Limits.{variables-most, clauses-most};
+ghost use Rattle.rules.specs.definitions.Text.{number-of};
+ghost use Rattle.rules.specs.definitions.Reading as reading;
 ghost use Rattle.sets.specs.Values.{clause-of};
 ghost use Rattle.formula.specs.States.{quant-of, Small, Takes, moved-to, ended-at, Begun, Binds, refusal-of, expected};
 

@@ -3,7 +3,7 @@ ghost use mathlib.Core.Path.{_≡_};
 ghost use mathlib.Core.List.{[]};
 ghost use Prim.Native.Nat.{_≤_};
 ghost use lib.ListN.{length};
-ghost use Rattle.rules.specs.Tables.{holding};
+ghost use Rattle.rules.specs.definitions.Tables.{holding};
 
 // The first n words zero; those past them as they came.
 pub fn clear(table: &mut [u32], n: usize)

@@ -4,8 +4,8 @@ ghost use mathlib.Core.Bool.{true, false};
 ghost use mathlib.Core.List.{_∷_, []};
 ghost use Prim.Native.Nat.{_+_, _≤_, _<_};
 ghost use lib.ListN.{length, drop};
-ghost use Rattle.rules.specs.Text.{separator, token-byte, lead, uncommented, spelled};
-ghost use Rattle.rules.specs.Reading.{word-cnf};
+ghost use Rattle.rules.specs.definitions.Text.{separator, token-byte, lead, uncommented, spelled};
+ghost use Rattle.rules.specs.definitions.Reading.{word-cnf};
 
 const SPACE: u8 = 32;
 

@@ -7,11 +7,13 @@ use lib.Dec.{ltb}
 use lib.ListN.{length}
 use borrow.Author.Tests.{lt-ltb, le-ltb}
 use Rattle.rules.specs.declared.Reply.{Reply}
-use Rattle.rules.specs.Limits.{text-most, prefix-words, clause-words, line-words, map-words, long-text, short-table}
-use Rattle.rules.specs.Reading.{read}
-use Rattle.rules.specs.Tables.{prefix-after, clauses-after, lines-after, nodes-after, roots-after}
-use Rattle.rules.specs.Checking.{checked}
-use Rattle.rules.specs.Services.{Lent, Answer, refusal, refused-early, read-answer, check-answer, short, short-tables, reading, checking}
+use Rattle.rules.specs.definitions.Limits.{text-most}
+use Rattle.rules.specs.definitions.Layout.{prefix-words, clause-words, line-words, map-words}
+use Rattle.rules.specs.definitions.Refusals.{long-text, short-table}
+use Rattle.rules.specs.definitions.Reading.{read}
+use Rattle.rules.specs.definitions.Tables.{prefix-after, clauses-after, lines-after, nodes-after, roots-after}
+use Rattle.rules.specs.definitions.Checking.{checked}
+use Rattle.rules.specs.definitions.Services.{Lent, Answer, refusal, refused-early, read-answer, check-answer, short, short-tables, reading, checking}
 use Rattle.formula.specs.declared.reading.Outcome.{Outcome}
 use Rattle.formula.specs.Readings.{reply-of, outcome-reply, Left}
 use Rattle.malintok.specs.Calls.{Read-call, Long, Answers, Check-call}

@@ -7,26 +7,26 @@ use Prim.Native.Nat.{ℕ, _*_, _≤_, _<_}
 use native.Mathlib.Omega.{arith}
 use lib.ListN.{length, getD, length-map}
 use Rattle.rules.specs.declared.Reply.{Reply}
-use Rattle.rules.specs.Limits.{prefix-words, clause-words, line-words, map-words, set-words}
-use Rattle.rules.specs.Formula.{Formula, universals, no-literal}
-use Rattle.rules.specs.FormulaLaws.{proper-length, Worded}
-use Rattle.rules.specs.Faults.{Found}
-use Rattle.rules.specs.Faults.Found.{passes, fails}
-use Rattle.rules.specs.File.{merge-proof, head-fault}
-use Rattle.rules.specs.Reading.{Reading, read}
-use Rattle.rules.specs.Reading.Reading.{unread, formula}
-use Rattle.rules.specs.ReadLaws.{read-proper}
-use Rattle.rules.specs.Listed.{text-listed}
-use Rattle.rules.specs.Lines.{Row, house}
-use Rattle.rules.specs.Checking.{Passed, all-lines, last-empty, Checked, refutation, when-passed, proof-lines, proof-checked, checked-by, checked}
-use Rattle.rules.specs.Checking.Passed.{passed, stopped}
-use Rattle.rules.specs.Checking.Checked.{rejected, accepted}
-use Rattle.rules.specs.Tables.{bound-word, clause-row, holding, prefix-table, clause-table, prefix-after, clauses-after}
-use Rattle.rules.specs.TableLaws.{rows-length, holding-length, holding-same, holding-twice, holding-again}
-use Rattle.rules.specs.GoodLaws.{numbered-in}
+use Rattle.rules.specs.definitions.Layout.{prefix-words, clause-words, line-words, map-words, set-words}
+use Rattle.rules.specs.definitions.Formula.{Formula, universals, no-literal}
+use Rattle.theory.specs.laws.Formula.{proper-length, Worded}
+use Rattle.rules.specs.definitions.Faults.{Found}
+use Rattle.rules.specs.definitions.Faults.Found.{passes, fails}
+use Rattle.rules.specs.definitions.File.{merge-proof, head-fault}
+use Rattle.rules.specs.definitions.Reading.{Reading, read}
+use Rattle.rules.specs.definitions.Reading.Reading.{unread, formula}
+use Rattle.theory.specs.laws.Reading.{read-proper}
+use Rattle.theory.specs.laws.Listed.{text-listed}
+use Rattle.rules.specs.definitions.Lines.{Row, house}
+use Rattle.rules.specs.definitions.Checking.{Passed, all-lines, last-empty, Checked, refutation, when-passed, proof-lines, proof-checked, checked-by, checked}
+use Rattle.rules.specs.definitions.Checking.Passed.{passed, stopped}
+use Rattle.rules.specs.definitions.Checking.Checked.{rejected, accepted}
+use Rattle.rules.specs.definitions.Tables.{bound-word, clause-row, holding, prefix-table, clause-table, prefix-after, clauses-after}
+use Rattle.theory.specs.laws.Tables.{rows-length, holding-length, holding-same, holding-twice, holding-again}
+use Rattle.theory.specs.laws.Lines.{numbered-in}
 use Rattle.sets.specs.Values.{length-clause-row}
-use Rattle.rules.specs.Services.{Lent, refusal, success, read-answer, check-answer}
-use Rattle.rules.specs.Proper.{Proper}
+use Rattle.rules.specs.definitions.Services.{Lent, refusal, success, read-answer, check-answer}
+use Rattle.rules.specs.statements.Proper.{Proper}
 use Rattle.formula.specs.declared.reading.Outcome.{Outcome}
 use Rattle.formula.specs.Readings.{reply-of, outcome-reply, Left}
 use Rattle.checker.specs.declared.check.Findings.{Findings}

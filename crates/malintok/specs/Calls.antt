@@ -5,13 +5,13 @@ use Prim.Native.Nat.{ℕ, _≤_}
 use lib.ListN.{length}
 use Rattle.rules.specs.declared.Reply.{Reply}
 use Rattle.rules.specs.declared.Played.{Played}
-use Rattle.rules.specs.Tables.{prefix-after, clauses-after, lines-after, nodes-after, roots-after}
-use Rattle.rules.specs.Limits.{prefix-words, clause-words, line-words, map-words}
-use Rattle.rules.specs.File.{merge-proof}
-use Rattle.rules.specs.Formula.{Formula}
-use Rattle.rules.specs.Lines.{house}
-use Rattle.rules.specs.Checking.{refutation, proof-checked, checked}
-use Rattle.rules.specs.Services.{Lent, Answer, success, reading, check-answer, checking, playing}
+use Rattle.rules.specs.definitions.Tables.{prefix-after, clauses-after, lines-after, nodes-after, roots-after}
+use Rattle.rules.specs.definitions.Layout.{prefix-words, clause-words, line-words, map-words}
+use Rattle.rules.specs.definitions.File.{merge-proof}
+use Rattle.rules.specs.definitions.Formula.{Formula}
+use Rattle.rules.specs.definitions.Lines.{house}
+use Rattle.rules.specs.definitions.Checking.{refutation, proof-checked, checked}
+use Rattle.rules.specs.definitions.Services.{Lent, Answer, success, reading, check-answer, checking, playing}
 
 -- reading the text, with these tables lent, gives this reply and leaves these tables
 pub record Read-call (text prefix clauses : List ℕ) (r : Reply) (prefix′ clauses′ : List ℕ) : Type 0 where

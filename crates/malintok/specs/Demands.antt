@@ -9,25 +9,29 @@ use borrow.Author.Tests.{ltb-false}
 use Rattle.rules.specs.declared.Value.{Value}
 use Rattle.rules.specs.declared.Reply.{Reply}
 use Rattle.rules.specs.declared.Played.{Played}
-use Rattle.rules.specs.Limits.{universals-most, map-words, prefix-words, clause-words, line-words}
-use Rattle.rules.specs.Sets.{has}
-use Rattle.rules.specs.Formula.{Formula, False, bound-by, universals, left-of}
-use Rattle.rules.specs.Formula.Quant.{exists}
-use Rattle.rules.specs.Reading.{read}
-use Rattle.rules.specs.Reading.Reading.{formula}
-use Rattle.rules.specs.File.{announced}
-use Rattle.rules.specs.Maps.{plays, value-word}
-use Rattle.rules.specs.Lines.{Row, no-row, house, column, root-at}
-use Rattle.rules.specs.Tables.{rows-of, node-row, root-row, holding, nodes-after, roots-after}
-use Rattle.rules.specs.Services.{Lent, Answer, playing, short}
-use Rattle.rules.specs.GoodLaws.{neither}
-use Rattle.rules.specs.TableLaws.{rows-length, holding-length}
-use Rattle.rules.specs.TablePlays.{nodes-wide, table-root-rows, table-plays}
-use Rattle.rules.specs.Countermodel.{Countermodel, last-root, accepted-good, accepted-lines, accepted-wins, accepted-false}
-use Rattle.rules.specs.Paper.{Refutation}
-use Rattle.rules.specs.Named.{Left-in}
-use Rattle.rules.specs.Exact.{paper-lines, published}
-use Rattle.rules.specs.Promise.{Answered, answered-zero}
+use Rattle.rules.specs.definitions.Limits.{universals-most}
+use Rattle.rules.specs.definitions.Layout.{map-words, prefix-words, clause-words, line-words}
+use Rattle.rules.specs.definitions.Sets.{has}
+use Rattle.rules.specs.definitions.Formula.{Formula, False, bound-by, universals, left-of}
+use Rattle.rules.specs.definitions.Formula.Quant.{exists}
+use Rattle.rules.specs.definitions.Reading.{read}
+use Rattle.rules.specs.definitions.Reading.Reading.{formula}
+use Rattle.rules.specs.definitions.File.{announced}
+use Rattle.rules.specs.definitions.Maps.{plays, value-word}
+use Rattle.rules.specs.definitions.Lines.{Row, no-row, house, column, root-at}
+use Rattle.rules.specs.definitions.Tables.{rows-of, node-row, root-row, holding, nodes-after, roots-after}
+use Rattle.rules.specs.definitions.Services.{Lent, Answer, playing, short}
+use Rattle.theory.specs.laws.Lines.{neither}
+use Rattle.theory.specs.laws.Tables.{rows-length, holding-length}
+use Rattle.theory.specs.laws.Playing.{nodes-wide, table-root-rows, table-plays}
+use Rattle.rules.specs.statements.Countermodel.{Countermodel, last-root}
+use Rattle.theory.specs.theorems.Countermodel.{accepted-good, accepted-lines, accepted-wins, accepted-false}
+use Rattle.rules.specs.definitions.Paper.{Refutation}
+use Rattle.rules.specs.definitions.Named.{Left-in}
+use Rattle.rules.specs.statements.Held.{paper-lines}
+use Rattle.theory.specs.theorems.Exact.{published}
+use Rattle.rules.specs.statements.Answered.{Answered}
+use Rattle.theory.specs.theorems.Promise.{answered-zero}
 use Rattle.malintok.specs.Calls.{Check-call, Play-call}
 
 -- the universal at offset j, in the words of the root table: the last line's root

@@ -4,7 +4,7 @@ use mathlib.Core.List.{List}
 use Prim.Native.Nat.{ℕ}
 use Rattle.rules.specs.declared.Reply.{Reply}
 use Rattle.rules.specs.declared.Played.{Played}
-use Rattle.rules.specs.Services.{Lent}
+use Rattle.rules.specs.definitions.Services.{Lent}
 use Rattle.malintok.specs.Calls.{Read-call, Check-call, Play-call}
 
 pub read-determined : (text prefix clauses : List ℕ) (r s : Reply) (p q c d : List ℕ) → Read-call text prefix clauses r p c → Read-call text prefix clauses s q d

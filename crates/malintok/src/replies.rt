@@ -2,7 +2,7 @@
 use formula::reading::Outcome;
 use rules::Reply;
 ghost use mathlib.Core.Path.{_≡_};
-ghost use Rattle.rules.specs.Services.{refusal};
+ghost use Rattle.rules.specs.definitions.Services.{refusal};
 ghost use Rattle.formula.specs.Readings.{reply-of};
 ghost use Rattle.malintok.specs.Calls.{with-lines};
 

@@ -13,10 +13,11 @@ use borrow.Author.Tests.{eq-eqb, ne-eqb}
 use Rattle.rules.specs.declared.Value.{Value}
 use Rattle.rules.specs.declared.Node.{Node}
 use Rattle.rules.specs.declared.Node.the-variants.{None, Leaf, Branch}
-use Rattle.rules.specs.Limits.{lines-most}
-use Rattle.rules.specs.Maps.{Column, Pairing, put, pair, same-value, compare, visit, pass, whole, isomorphic}
-use Rattle.rules.specs.Maps.Pairing.{clash, pairs}
-use Rattle.rules.specs.Pairings.{put-same, put-other, pair-clash, pass-clash}
+use Rattle.rules.specs.definitions.Limits.{lines-most}
+use Rattle.rules.specs.definitions.Maps.{Column}
+use Rattle.rules.specs.definitions.Comparing.{Pairing, put, pair, same-value, compare, visit, pass, whole, isomorphic}
+use Rattle.rules.specs.definitions.Comparing.Pairing.{clash, pairs}
+use Rattle.theory.specs.laws.Comparing.{put-same, put-other, pair-clash, pass-clash}
 use Rattle.maps.specs.Comparing.{partner, held, Partners, Stands, leaf-with}
 
 -- an answer that is known

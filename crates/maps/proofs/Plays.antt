@@ -9,14 +9,15 @@ use lib.ListN.{getD}
 use borrow.Author.Tests.{lt-ltb, le-ltb}
 use Rattle.rules.specs.declared.Node.{Node}
 use Rattle.rules.specs.declared.Node.the-variants.{None, Leaf, Branch}
-use Rattle.rules.specs.Limits.{universals-most, play-range, play-word}
-use Rattle.rules.specs.Sets.{Set, has}
-use Rattle.rules.specs.Formula.{Assignment}
-use Rattle.rules.specs.Maps.{Column, node-of, value-word, Walk, noting, walk-node, walk}
-use Rattle.rules.specs.Maps.Walk.{ended, broken}
-use Rattle.rules.specs.MapLaws.{walk-at}
+use Rattle.rules.specs.definitions.Limits.{universals-most}
+use Rattle.rules.specs.definitions.Refusals.{play-range, play-word}
+use Rattle.rules.specs.definitions.Sets.{Set, has}
+use Rattle.rules.specs.definitions.Formula.{Assignment}
+use Rattle.rules.specs.definitions.Maps.{Column, node-of, value-word, Walk, noting, walk-node, walk}
+use Rattle.rules.specs.definitions.Maps.Walk.{ended, broken}
+use Rattle.theory.specs.laws.Maps.{walk-at}
 use Rattle.rules.specs.declared.Played.{Played}
-use Rattle.rules.specs.Services.{table-column, play-answer, play-refused, playing}
+use Rattle.rules.specs.definitions.Services.{table-column, play-answer, play-refused, playing}
 use Rattle.maps.specs.declared.Next.{Next}
 use Rattle.maps.specs.declared.Next.the-variants.{End, Go, Stop}
 use Rattle.maps.specs.declared.Outcome.{Outcome}

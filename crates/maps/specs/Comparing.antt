@@ -7,9 +7,9 @@ use lib.ListN.{length, getD}
 use Rattle.rules.specs.declared.Value.{Value}
 use Rattle.rules.specs.declared.Node.{Node}
 use Rattle.rules.specs.declared.Node.the-variants.{None, Leaf, Branch}
-use Rattle.rules.specs.Limits.{lines-most}
-use Rattle.rules.specs.Maps.{Pairing, same-value}
-use Rattle.rules.specs.Maps.Pairing.{clash, pairs}
+use Rattle.rules.specs.definitions.Limits.{lines-most}
+use Rattle.rules.specs.definitions.Comparing.{Pairing, same-value}
+use Rattle.rules.specs.definitions.Comparing.Pairing.{clash, pairs}
 
 -- node k's partner is word k − 1 of the array, 0 for none
 unfoldable pub partner : List ℕ → ℕ → ℕ

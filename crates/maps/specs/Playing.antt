@@ -6,10 +6,10 @@ use lib.Dec.{ltb}
 use lib.ListN.{length}
 use Rattle.rules.specs.declared.Node.{Node}
 use Rattle.rules.specs.declared.Node.the-variants.{None, Leaf, Branch}
-use Rattle.rules.specs.Limits.{universals-most, lines-most}
-use Rattle.rules.specs.Formula.{Assignment}
-use Rattle.rules.specs.Maps.{Walk}
-use Rattle.rules.specs.Maps.Walk.{ended, broken}
+use Rattle.rules.specs.definitions.Limits.{universals-most, lines-most}
+use Rattle.rules.specs.definitions.Formula.{Assignment}
+use Rattle.rules.specs.definitions.Maps.{Walk}
+use Rattle.rules.specs.definitions.Maps.Walk.{ended, broken}
 use Rattle.maps.specs.declared.Next.{Next}
 use Rattle.maps.specs.declared.Next.the-variants.{End, Go, Stop}
 use Rattle.maps.specs.declared.Outcome.{Outcome}

@@ -21,12 +21,13 @@ use sets::Set;
 ghost use mathlib.Core.Path.{_≡_};
 ghost use mathlib.Core.Bool.{true};
 ghost use Prim.Native.Nat.{_+_, _≤_};
-ghost use Rattle.rules.specs.Limits.{lines-most};
-ghost use Rattle.rules.specs.Sets.{has};
+ghost use Rattle.rules.specs.definitions.Limits.{lines-most};
+ghost use Rattle.rules.specs.definitions.Sets.{has};
 ghost use Rattle.sets.specs.Values.{set-of};
-ghost use Rattle.rules.specs.Maps.{node-of, node-word, value-word, star?, walk, pair, compare, visit, pass, whole, isomorphic};
-ghost use Rattle.rules.specs.MapLaws.{In-range};
-ghost use Rattle.rules.specs.Services.{table-column, playing};
+ghost use Rattle.rules.specs.definitions.Maps.{node-of, node-word, value-word, star?, walk};
+ghost use Rattle.rules.specs.definitions.Comparing.{pair, compare, visit, pass, whole, isomorphic};
+ghost use Rattle.rules.specs.statements.Sound.{In-range};
+ghost use Rattle.rules.specs.definitions.Services.{table-column, playing};
 ghost use Rattle.maps.specs.Playing.{next, falls, outcome, Place};
 ghost use Rattle.maps.specs.Comparing.{held, Partners, Stands, leaf-with};
 

@@ -9,11 +9,11 @@ use native.Mathlib.Decide.{decLt}
 use lib.Dec.{eqb, ltb}
 use lib.ListN.{length, getD, take}
 use borrow.Author.Tests.{lt-ltb, le-ltb, eq-eqb, ne-eqb}
-use Rattle.rules.specs.Text.{spelled}
-use Rattle.rules.specs.FormulaLaws.{eqb-comm}
-use Rattle.rules.specs.File.{pair-at}
-use Rattle.rules.specs.Faults.{Fault, fault, first-of}
-use Rattle.rules.specs.File.{head-fault}
+use Rattle.rules.specs.definitions.Text.{spelled}
+use Rattle.theory.specs.laws.Formula.{eqb-comm}
+use Rattle.rules.specs.definitions.File.{pair-at}
+use Rattle.rules.specs.definitions.Faults.{Fault, fault, first-of}
+use Rattle.rules.specs.definitions.File.{head-fault}
 use Rattle.proof.specs.Head.{unmarked, headed, head-of}
 use Rattle.proof.specs.declared.Head.the-variants as H
 

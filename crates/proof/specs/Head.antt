@@ -4,11 +4,11 @@ use mathlib.Core.List.{List}
 use Prim.Native.Nat.{ℕ}
 use lib.Dec.{eqb, ltb}
 use lib.ListN.{length, take}
-use Rattle.rules.specs.Limits.{head-bytes}
-use Rattle.rules.specs.Text.{spelled}
-use Rattle.rules.specs.Faults.{Found}
-use Rattle.rules.specs.Faults.Found.{passes, fails}
-use Rattle.rules.specs.File.{pair-at, merge-proof, announced, head-fault}
+use Rattle.rules.specs.definitions.Layout.{head-bytes}
+use Rattle.rules.specs.definitions.Text.{spelled}
+use Rattle.rules.specs.definitions.Faults.{Found}
+use Rattle.rules.specs.definitions.Faults.Found.{passes, fails}
+use Rattle.rules.specs.definitions.File.{pair-at, merge-proof, announced, head-fault}
 use Rattle.proof.specs.declared.Head.{Head}
 use Rattle.proof.specs.declared.Head.the-variants as H
 

@@ -20,8 +20,8 @@ ghost use mathlib.Core.Path.{_≡_};
 ghost use mathlib.Core.Bool.{not};
 ghost use Prim.Native.Nat.{ℕ, _+_, _<_};
 ghost use lib.ListN.{length};
-ghost use Rattle.rules.specs.Limits.{record-bytes};
-ghost use Rattle.rules.specs.File.{pair-at, bare-tail, decoded};
+ghost use Rattle.rules.specs.definitions.Layout.{record-bytes};
+ghost use Rattle.rules.specs.definitions.File.{pair-at, bare-tail, decoded};
 ghost use Rattle.proof.specs.Head.{unmarked, head-of};
 
 // The head as examined: the number of the refusal, or the line count.

@@ -6,22 +6,23 @@ use native.Mathlib.Numerals.{add-one}
 use native.Mathlib.Omega.{arith}
 use lib.ListN.{length, getD, take, drop, replicate, length-map, length-append, length-replicate}
 use lib.Seq.{take-at}
-use Rattle.rules.specs.Limits.{variables-most, universal-mark, universals-most, lines-most, prefix-words, map-words}
-use Rattle.rules.specs.Formula.{Quant, Bound, Formula, universals}
-use Rattle.rules.specs.Formula.Quant.{exists, forall}
-use Rattle.rules.specs.Proper.{Proper, var-at}
-use Rattle.rules.specs.FormulaLaws.{proper-length}
-use Rattle.rules.specs.Lines.{Row, house, no-row, column, root-at, each}
-use Rattle.rules.specs.Tables.{bound-word, node-row, root-row, rows-of, padded, holding}
-use Rattle.rules.specs.TableLaws.{rows-length, holding-length}
-use Rattle.rules.specs.TablePlays.{nodes-wide, roots-wide, table-column-rows, table-root-rows}
-use Rattle.rules.specs.Services.{table-column}
-use Rattle.rules.specs.Good.{Good}
-use Rattle.rules.specs.Checking.{checked}
-use Rattle.rules.specs.Checking.Checked.{accepted}
-use Rattle.rules.specs.Countermodel.{accepted-good, accepted-lines}
-use Rattle.rules.specs.Report.{joined, map-lines, maps-text}
-use Rattle.rules.specs.ReportLaws.{map-lines-same}
+use Rattle.rules.specs.definitions.Limits.{variables-most, universals-most, lines-most}
+use Rattle.rules.specs.definitions.Layout.{universal-mark, prefix-words, map-words}
+use Rattle.rules.specs.definitions.Formula.{Quant, Bound, Formula, universals}
+use Rattle.rules.specs.definitions.Formula.Quant.{exists, forall}
+use Rattle.rules.specs.statements.Proper.{Proper, var-at}
+use Rattle.theory.specs.laws.Formula.{proper-length}
+use Rattle.rules.specs.definitions.Lines.{Row, house, no-row, column, root-at, each}
+use Rattle.rules.specs.definitions.Tables.{bound-word, node-row, root-row, rows-of, padded, holding}
+use Rattle.theory.specs.laws.Tables.{rows-length, holding-length}
+use Rattle.theory.specs.laws.Playing.{nodes-wide, roots-wide, table-column-rows, table-root-rows}
+use Rattle.rules.specs.definitions.Services.{table-column}
+use Rattle.rules.specs.statements.Good.{Good}
+use Rattle.rules.specs.definitions.Checking.{checked}
+use Rattle.rules.specs.definitions.Checking.Checked.{accepted}
+use Rattle.theory.specs.theorems.Countermodel.{accepted-good, accepted-lines}
+use Rattle.rules.specs.definitions.Report.{joined, map-lines, maps-text}
+use Rattle.theory.specs.laws.Report.{map-lines-same}
 use Rattle.report.specs.Tabled.{last-root, word-maps, In-table, Ready, Printable}
 use Rattle.report.proofs.Maps.{maps-universal, maps-other, ready-universal, ready-other}
 

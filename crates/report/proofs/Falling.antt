@@ -12,9 +12,9 @@ use lib.Seq.{getD-set-same, getD-set-other}
 use borrow.Author.Tests.{eq-eqb, ne-eqb}
 use Rattle.rules.specs.declared.Node.{Node}
 use Rattle.rules.specs.declared.Node.the-variants.{None, Leaf, Branch}
-use Rattle.rules.specs.Maps.{Column}
-use Rattle.rules.specs.MapLaws.{In-range}
-use Rattle.rules.specs.Report.{mark-ends, reached-from, nodes-falling, node-line, joined}
+use Rattle.rules.specs.definitions.Maps.{Column}
+use Rattle.rules.specs.statements.Sound.{In-range}
+use Rattle.rules.specs.definitions.Report.{mark-ends, reached-from, nodes-falling, node-line, joined}
 use Rattle.report.specs.Written.{Appended, numbered}
 use Rattle.report.specs.Marks.{marks-of, with-ends}
 use Rattle.report.proofs.Laws.{nothing, then, retext}

@@ -10,7 +10,7 @@ use lib.ListN.{length, getD, set, take, drop, length-append, length-set, drop-of
 use lib.Seq.{paste, paste-suc, length-paste, take-paste, drop-paste, take-length, drop-drop, drop-cons, drop-set-lt, getD-set-same}
 use native.Mathlib.Nat.{pow-suc}
 use borrow.Author.Tests.{lt-ltb, le-ltb, ltb-false}
-use Rattle.rules.specs.Report.{digits-before, decimal}
+use Rattle.rules.specs.definitions.Report.{digits-before, decimal}
 use Rattle.report.specs.Written.{Appended}
 
 -- one byte more is pasted

@@ -7,7 +7,7 @@ use native.Mathlib.Omega.{arith}
 use lib.ListN.{length, getD, take, drop, drop-of-length-le}
 use lib.Seq.{drop-cons, getD-take, length-take-le}
 use borrow.Author.Tests.{lt-ltb, le-ltb}
-use Rattle.rules.specs.Limits.{universal-mark}
+use Rattle.rules.specs.definitions.Layout.{universal-mark}
 use Rattle.report.specs.Written.{Appended}
 use Rattle.report.specs.Tabled.{word-map, word-maps, In-table, Ready}
 use Rattle.report.proofs.Laws.{nothing, then, retext}

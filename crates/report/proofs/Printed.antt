@@ -8,13 +8,14 @@ use lib.Dec.{ltb}
 use lib.ListN.{length, length-take}
 use borrow.Author.Tests.{eq-eqb, ne-eqb, le-ltb}
 use Rattle.rules.specs.declared.Reply.{Reply}
-use Rattle.rules.specs.Limits.{text-most, prefix-words, clause-words, line-words, map-words}
-use Rattle.rules.specs.Checking.{Checked, checked}
-use Rattle.rules.specs.Checking.Checked.{rejected, accepted}
-use Rattle.rules.specs.Tables.{prefix-after, nodes-after, roots-after}
-use Rattle.rules.specs.Services.{Lent, Answer, refused-early, check-answer, short-tables, checking}
-use Rattle.rules.specs.Listed.{check-listed}
-use Rattle.rules.specs.Report.{refused-line, accepted-text, report, printed}
+use Rattle.rules.specs.definitions.Limits.{text-most}
+use Rattle.rules.specs.definitions.Layout.{prefix-words, clause-words, line-words, map-words}
+use Rattle.rules.specs.definitions.Checking.{Checked, checked}
+use Rattle.rules.specs.definitions.Checking.Checked.{rejected, accepted}
+use Rattle.rules.specs.definitions.Tables.{prefix-after, nodes-after, roots-after}
+use Rattle.rules.specs.definitions.Services.{Lent, Answer, refused-early, check-answer, short-tables, checking}
+use Rattle.theory.specs.laws.Listed.{check-listed}
+use Rattle.rules.specs.definitions.Report.{refused-line, accepted-text, report, printed}
 use Rattle.malintok.specs.Calls.{Check-call}
 use Rattle.report.specs.Written.{Appended, accepted-line}
 use Rattle.report.specs.Tabled.{reply-text, accepted-tables, Printable}

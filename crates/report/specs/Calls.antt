@@ -3,10 +3,10 @@ use mathlib.Core.Path.{_≡_}
 use mathlib.Core.List.{List}
 use Prim.Native.Nat.{ℕ, _≤_}
 use lib.ListN.{length, take, drop}
-use Rattle.rules.specs.Limits.{prefix-words, clause-words, line-words, map-words}
-use Rattle.rules.specs.Tables.{prefix-after, clauses-after, lines-after, nodes-after, roots-after}
-use Rattle.rules.specs.Services.{Lent, checking}
-use Rattle.rules.specs.Report.{printed}
+use Rattle.rules.specs.definitions.Layout.{prefix-words, clause-words, line-words, map-words}
+use Rattle.rules.specs.definitions.Tables.{prefix-after, clauses-after, lines-after, nodes-after, roots-after}
+use Rattle.rules.specs.definitions.Services.{Lent, checking}
+use Rattle.rules.specs.definitions.Report.{printed}
 
 -- bytes enough for every report
 abbrev pub report-most : ℕ

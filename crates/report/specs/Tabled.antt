@@ -5,9 +5,10 @@ use Prim.Native.Nat.{ℕ, suc, _+_, _-_, _*_, _≤_, _<_}
 use lib.Dec.{eqb, ltb}
 use lib.ListN.{length, getD, take}
 use Rattle.rules.specs.declared.Reply.{Reply}
-use Rattle.rules.specs.Limits.{universal-mark, universals-most, lines-most}
-use Rattle.rules.specs.Services.{table-column}
-use Rattle.rules.specs.Report.{map-lines, refused-line}
+use Rattle.rules.specs.definitions.Layout.{universal-mark}
+use Rattle.rules.specs.definitions.Limits.{universals-most, lines-most}
+use Rattle.rules.specs.definitions.Services.{table-column}
+use Rattle.rules.specs.definitions.Report.{map-lines, refused-line}
 use Rattle.report.specs.Written.{accepted-line}
 
 -- line n's root for the universal at offset j

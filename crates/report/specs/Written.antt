@@ -4,8 +4,8 @@ use mathlib.Core.List.{List, _++_}
 use Prim.Native.Nat.{ℕ, _+_}
 use lib.ListN.{length, take, drop}
 use Rattle.rules.specs.declared.Node.{Node}
-use Rattle.rules.specs.Bytes.{text}
-use Rattle.rules.specs.Report.{decimal, node-text, line}
+use Rattle.rules.specs.definitions.Bytes.{text}
+use Rattle.rules.specs.definitions.Report.{decimal, node-text, line}
 
 -- the text stands behind the first `at` bytes, `next` is past it, and what lies past it is as it was
 pub record Appended (before after : List ℕ) (at next : ℕ) (text : List ℕ) : Type 0 where

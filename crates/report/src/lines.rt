@@ -3,7 +3,7 @@ use crate::text::put;
 use crate::text::put_decimal;
 ghost use Prim.Native.Nat.{_+_, _≤_};
 ghost use lib.ListN.{length};
-ghost use Rattle.rules.specs.Report.{refused-line};
+ghost use Rattle.rules.specs.definitions.Report.{refused-line};
 ghost use Rattle.report.specs.Written.{Appended, accepted-line, map-head};
 
 // A refusal: its number, place and variable.

@@ -5,7 +5,7 @@ use rules::Node;
 use rules::Value;
 ghost use Prim.Native.Nat.{_+_, _≤_};
 ghost use lib.ListN.{length};
-ghost use Rattle.rules.specs.Report.{value-name, node-text};
+ghost use Rattle.rules.specs.definitions.Report.{value-name, node-text};
 ghost use Rattle.report.specs.Written.{Appended, numbered};
 
 // A leaf's value, after a space.

@@ -2,7 +2,7 @@
 ghost use mathlib.Core.Path.{_≡_};
 ghost use Prim.Native.Nat.{_+_, _-_, _%_, _≤_, _<_};
 ghost use lib.ListN.{length};
-ghost use Rattle.rules.specs.Report.{decimal};
+ghost use Rattle.rules.specs.definitions.Report.{decimal};
 ghost use Rattle.report.specs.Written.{Appended};
 
 // The bytes, put behind the first `at` of out; the place past them.

@@ -13,10 +13,10 @@ use lib.ListN.{length, getD, take, drop, set, length-append, length-drop, drop-o
 use lib.Pow.{shl-exact}
 use lib.Seq.{drop-cons, set-split, take-at, take-all}
 use borrow.Author.Tests.{eqb-true, eqb-false}
-use Rattle.rules.specs.Limits.{set-words}
-use Rattle.rules.specs.Bits.{bit}
-use Rattle.rules.specs.Sets.{has, with, without, only, empty, meet}
-use Rattle.rules.specs.SetLaws.{has-past, zeros-empty, empty-zeros, meet-only}
+use Rattle.rules.specs.definitions.Layout.{set-words}
+use Rattle.rules.specs.definitions.Bits.{bit}
+use Rattle.rules.specs.definitions.Sets.{has, with, without, only, empty, meet}
+use Rattle.theory.specs.laws.Sets.{has-past, zeros-empty, empty-zeros, meet-only}
 use Rattle.sets.specs.Values.{put-in, clause-in}
 
 -- one bit shifted to its place

@@ -5,11 +5,11 @@ use Prim.Native.Nat.{ℕ, _+_, _*_}
 use native.Mathlib.Omega.{arith}
 use lib.ListN.{length, take, drop, length-append}
 use lib.Seq.{take-at, drop-at}
-use Rattle.rules.specs.Limits.{set-words}
-use Rattle.rules.specs.Sets.{Set as Variables, without, join}
-use Rattle.rules.specs.Formula.{Clause as Literals}
-use Rattle.rules.specs.FormulaLaws.{Worded}
-use Rattle.rules.specs.Tables.{clause-row}
+use Rattle.rules.specs.definitions.Layout.{set-words}
+use Rattle.rules.specs.definitions.Sets.{Set as Variables, without, join}
+use Rattle.rules.specs.definitions.Formula.{Clause as Literals}
+use Rattle.theory.specs.laws.Formula.{Worded}
+use Rattle.rules.specs.definitions.Tables.{clause-row}
 use Rattle.sets.specs.declared.Set.{Set}
 use Rattle.sets.specs.declared.Clause.{Clause}
 

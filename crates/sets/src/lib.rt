@@ -3,18 +3,11 @@ use rules::limits::VARIABLES_MOST;
 ghost use mathlib.Core.Path.{_≡_};
 ghost use Prim.Native.Nat.{_+_, _*_, _≤_};
 ghost use lib.ListN.{length, take, drop};
-ghost use Rattle.rules.specs.Limits.{variables-most, set-words};
-ghost use Rattle.rules.specs.Sets.{none, has, with, without, join, only, empty, meet};
-ghost use Rattle.rules.specs.Formula.{
-  no-literal,
-  with-literal,
-  has-opposite,
-  kept-by,
-  resolvent,
-  two-faced,
-  empty-clause,
-};
-ghost use Rattle.rules.specs.Tables.{clause-row};
+ghost use Rattle.rules.specs.definitions.Limits.{variables-most};
+ghost use Rattle.rules.specs.definitions.Layout.{set-words};
+ghost use Rattle.rules.specs.definitions.Sets.{none, has, with, without, join, only, empty, meet};
+ghost use Rattle.rules.specs.definitions.Formula.{no-literal, with-literal, has-opposite, kept-by, resolvent, two-faced, empty-clause};
+ghost use Rattle.rules.specs.definitions.Tables.{clause-row};
 ghost use Rattle.sets.specs.Values.{put-in, clause-in, set-of, clause-of, less-plain, less-negated, joined};
 
 // A set of variables: variable v is bit v - 1.

@@ -4,7 +4,7 @@ use native.Mathlib.Omega.{arith}
 use lib.Dec.{lit≤}
 use lib.Seq.{length-take-le}
 use borrow.Author.Needs.{needs}
-use Rattle.rules.specs.Limits.{prefix-words, clause-words, line-words, map-words}
+use Rattle.rules.specs.definitions.Layout.{prefix-words, clause-words, line-words, map-words}
 use Rattle.bench.proofs.show.Statement.{statement}
 use Rattle.bench.proofs.show.Tie as tie
 

@@ -1,6 +1,6 @@
 -- `malintok::malintok_check` meets its contract: the tests before any byte is read, then what checking the text with the proof leaves.
 use native.Mathlib.Omega.{arith}
-use Rattle.rules.specs.Limits.{prefix-words, clause-words, line-words, map-words}
+use Rattle.rules.specs.definitions.Layout.{prefix-words, clause-words, line-words, map-words}
 use Rattle.malintok.proofs.Answers.{check-short, short-prefix, short-clauses, short-lines, short-nodes, short-roots, check-long, check-whole}
 use borrow.Author.Needs.{needs}
 use Rattle.malintok.proofs.malintok_check.Statement.{statement}

@@ -1,6 +1,6 @@
 -- `malintok::malintok_read` meets its contract: the tests before any byte is read, then what reading the text leaves.
 use native.Mathlib.Omega.{arith}
-use Rattle.rules.specs.Limits.{prefix-words, clause-words}
+use Rattle.rules.specs.definitions.Layout.{prefix-words, clause-words}
 use Rattle.malintok.proofs.Answers.{read-short-prefix, read-short-clauses, read-long, read-whole}
 use borrow.Author.Needs.{needs}
 use Rattle.malintok.proofs.malintok_read.Statement.{statement}

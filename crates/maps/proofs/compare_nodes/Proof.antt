@@ -1,7 +1,7 @@
 -- `maps::compare_nodes` meets its contract: each return is one case of `compare`, at the nodes that were matched.
 use mathlib.Core.Path.{sym, subst}
 use borrow.Author.Tests.{not-true, not-false}
-use Rattle.rules.specs.MapLaws.{In-range}
+use Rattle.rules.specs.statements.Sound.{In-range}
 use Rattle.maps.proofs.Pairs.{answer-known, compare-none, compare-leaf, branch-none, branch-leaf, variables-differ, ends-clash, ends-paired}
 use borrow.Author.Needs.{needs}
 use Rattle.maps.proofs.compare_nodes.Statement.{statement}

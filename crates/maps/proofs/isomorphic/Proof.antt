@@ -2,7 +2,7 @@
 use mathlib.Core.Path.{refl, _∙_}
 use Prim.Native.Nat.{_+_}
 use borrow.Author.Tests.{not-true, not-false}
-use Rattle.rules.specs.Services.{table-column}
+use Rattle.rules.specs.definitions.Services.{table-column}
 use Rattle.maps.proofs.Pairs.{answer-known, first-partners, first-fails, first-holds}
 use Rattle.maps.proofs.isomorphic.Statement.{statement}
 use Rattle.maps.proofs.isomorphic.Tie as tie

@@ -2,8 +2,8 @@
 use mathlib.Core.Path.{sym, ap, _∙_, subst}
 use native.Mathlib.Omega.{arith}
 use Rattle.rules.specs.declared.Node.the-variants.{Branch}
-use Rattle.rules.specs.Maps.{node-word}
-use Rattle.rules.specs.MapLaws.{In-range}
+use Rattle.rules.specs.definitions.Maps.{node-word}
+use Rattle.rules.specs.statements.Sound.{In-range}
 use borrow.Author.Needs.{needs}
 use Rattle.maps.proofs.node_word.Statement.{statement}
 use Rattle.maps.proofs.node_word.Tie as tie

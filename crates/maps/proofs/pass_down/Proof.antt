@@ -2,7 +2,7 @@
 use mathlib.Core.Path.{refl}
 use Prim.Native.Nat.{_+_}
 use borrow.Author.Tests.{not-true, not-false}
-use Rattle.rules.specs.Services.{table-column}
+use Rattle.rules.specs.definitions.Services.{table-column}
 use Rattle.maps.proofs.Pairs.{answer-known, Going, going-on, visit-fails, all-visited}
 use borrow.Author.Needs.{needs}
 use Rattle.maps.proofs.pass_down.Statement.{statement}

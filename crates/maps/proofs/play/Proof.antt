@@ -3,8 +3,8 @@ use mathlib.Core.Path.{_≡_, sym, ap, _∙_}
 use Prim.Native.Nat.{ℕ, _≤_}
 use native.Mathlib.Omega.{arith}
 use borrow.Author.Tests.{eq-eqb, ne-eqb, lt-ltb, le-ltb}
-use Rattle.rules.specs.Limits.{map-words}
-use Rattle.rules.specs.Services.{playing}
+use Rattle.rules.specs.definitions.Layout.{map-words}
+use Rattle.rules.specs.definitions.Services.{playing}
 use Rattle.sets.specs.Values.{set-of}
 use Rattle.maps.proofs.Plays.{play-refuses, play-answers, answered}
 use borrow.Author.Needs.{needs}

@@ -1,8 +1,8 @@
 -- `maps::read_node` meets its contract: each return is one case of `node-of`, by the tests that led there.
 use mathlib.Core.Path.{sym, ap}
 use native.Mathlib.Omega.{arith}
-use Rattle.rules.specs.Maps.{node-of}
-use Rattle.rules.specs.MapLaws.{node-of-low, node-of-branch, node-of-high}
+use Rattle.rules.specs.definitions.Maps.{node-of}
+use Rattle.theory.specs.laws.Maps.{node-of-low, node-of-branch, node-of-high}
 use borrow.Author.Needs.{needs}
 use Rattle.maps.proofs.read_node.Statement.{statement}
 use Rattle.maps.proofs.read_node.Tie as tie

@@ -1,6 +1,6 @@
 -- `maps::star_leaf` meets its contract.
 use mathlib.Core.Path.{sym}
-use Rattle.rules.specs.MapLaws.{star-word}
+use Rattle.theory.specs.laws.Maps.{star-word}
 use Rattle.maps.proofs.star_leaf.Statement.{statement}
 use Rattle.maps.proofs.star_leaf.Tie as tie
 

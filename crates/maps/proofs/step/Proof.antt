@@ -4,10 +4,10 @@ use mathlib.Core.Bool.{Bool, true, false, cond}
 use Prim.Native.Nat.{ℕ, _+_, _≤_, _<_}
 use Rattle.rules.specs.declared.Node.{Node}
 use Rattle.rules.specs.declared.Node.the-variants.{Branch}
-use Rattle.rules.specs.Sets.{has}
+use Rattle.rules.specs.definitions.Sets.{has}
 use Rattle.sets.specs.Values.{set-of}
-use Rattle.rules.specs.MapLaws.{In-range}
-use Rattle.rules.specs.Services.{table-column}
+use Rattle.rules.specs.statements.Sound.{In-range}
+use Rattle.rules.specs.definitions.Services.{table-column}
 use Rattle.maps.specs.declared.Next.{Next}
 use Rattle.maps.specs.declared.Next.the-variants.{Go, Stop}
 use Rattle.maps.specs.Playing.{next}

@@ -2,8 +2,8 @@
 use Prim.Native.Nat.{_+_, _-_, _≤_}
 use native.Mathlib.Omega.{arith}
 use lib.ListN.{getD}
-use Rattle.rules.specs.Limits.{lines-most}
-use Rattle.rules.specs.Services.{table-column}
+use Rattle.rules.specs.definitions.Limits.{lines-most}
+use Rattle.rules.specs.definitions.Services.{table-column}
 use Rattle.maps.proofs.Pairs.{partner-at, visit-none, visit-partner}
 use borrow.Author.Needs.{needs}
 use Rattle.maps.proofs.visit_node.Statement.{statement}

@@ -1,6 +1,6 @@
 -- `proof::decode` meets its contract: each return by the law of FileLaws for the record's first byte.
 use mathlib.Core.Path.{sym, _∙_}
-use Rattle.rules.specs.FileLaws.{decoded-axiom, decoded-tail, decoded-resolution, decoded-kind}
+use Rattle.theory.specs.laws.File.{decoded-axiom, decoded-tail, decoded-resolution, decoded-kind}
 use borrow.Author.Needs.{needs}
 use Rattle.proof.proofs.decode.Statement.{statement}
 use Rattle.proof.proofs.decode.Tie as tie

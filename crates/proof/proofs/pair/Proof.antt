@@ -1,5 +1,5 @@
 -- `proof::pair` meets its contract: low byte and high byte as they are widened.
-use Rattle.rules.specs.File.{pair-at}
+use Rattle.rules.specs.definitions.File.{pair-at}
 use borrow.Author.Needs.{needs}
 use Rattle.proof.proofs.pair.Statement.{statement}
 use Rattle.proof.proofs.pair.Tie as tie

@@ -1,7 +1,7 @@
 -- `checker::axioms::axiom_line` meets its contract: 23, or the row of the clause that the table holds (Formulas).
 use mathlib.Core.Path.{refl, ap, _∙_}
 use native.Mathlib.Omega.{arith}
-use Rattle.rules.specs.Formula.{kept-by}
+use Rattle.rules.specs.definitions.Formula.{kept-by}
 use Rattle.checker.proofs.Formulas.{clause-within, axiom-none, axiom-past, axiom-makes}
 use borrow.Author.Needs.{needs}
 use Rattle.checker.proofs.axioms.axiom_line.Statement.{statement}

@@ -1,17 +1,17 @@
 -- `checker::axioms::leaf_row` meets its contract. The invariant: the first j places hold the words of the first j entries.
 use Prim.Native.Nat.{ℕ, _≤_, _<_, _-_}
 use lib.ListN.{length, getD, take}
-use Rattle.rules.specs.Maps.{node-word}
+use Rattle.rules.specs.definitions.Maps.{node-word}
 use Rattle.rules.specs.declared.Value.{Value}
 use Rattle.rules.specs.declared.Node.the-variants.{Leaf}
-use Rattle.rules.specs.Lines.{falsifying}
+use Rattle.rules.specs.definitions.Lines.{falsifying}
 use Rattle.checker.proofs.Leaves.{words-more, words-all, players-length, player-at, no-node}
 use mathlib.Core.Path.{_≡_, refl, sym, ap, _∙_}
 use native.Mathlib.Omega.{arith}
 use borrow.Author.Needs.{needs}
-use Rattle.rules.specs.Limits.{universals-most}
-use Rattle.rules.specs.Lines.{Entry, leaf-entry, each}
-use Rattle.rules.specs.Tables.{padded}
+use Rattle.rules.specs.definitions.Limits.{universals-most}
+use Rattle.rules.specs.definitions.Lines.{Entry, leaf-entry, each}
+use Rattle.rules.specs.definitions.Tables.{padded}
 use Rattle.sets.specs.Values.{clause-of}
 use Rattle.checker.specs.Rows.{players, node-words, root-words}
 use Rattle.checker.proofs.Leaves.{words-more, words-all, players-length, player-at}

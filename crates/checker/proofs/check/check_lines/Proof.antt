@@ -1,7 +1,7 @@
 -- `checker::check::check_lines` meets its contract: a line refused, the last clause empty, or 32 (Checkings).
 use mathlib.Core.Path.{sym, _∙_}
 use native.Mathlib.Omega.{arith}
-use Rattle.rules.specs.Limits.{line-words, set-words}
+use Rattle.rules.specs.definitions.Layout.{line-words, set-words}
 use Rattle.checker.proofs.Checkings.{prefixed, whole-formula, lines-stopped, lines-passed, last-accepted, last-rejected}
 use borrow.Author.Needs.{needs}
 use Rattle.checker.proofs.check.check_lines.Statement.{statement}

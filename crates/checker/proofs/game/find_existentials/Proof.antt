@@ -1,9 +1,9 @@
 -- `checker::game::find_existentials` meets its contract. The invariant: the set is that of the existential variables from place i on.
-use Rattle.rules.specs.Limits.{prefix-words}
+use Rattle.rules.specs.definitions.Layout.{prefix-words}
 use mathlib.Core.Path.{_≡_, sym, _∙_}
 use native.Mathlib.Omega.{arith}
 use borrow.Author.Needs.{needs}
-use Rattle.rules.specs.Formula.{Formula, existentials}
+use Rattle.rules.specs.definitions.Formula.{Formula, existentials}
 use Rattle.sets.specs.Values.{set-of}
 use Rattle.checker.specs.Game.{Prefixed}
 use Prim.Native.Nat.{_≤_}

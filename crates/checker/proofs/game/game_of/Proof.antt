@@ -2,12 +2,12 @@
 use mathlib.Core.Path.{_≡_, refl, ap, _∙_}
 use native.Mathlib.Omega.{arith}
 use borrow.Author.Needs.{needs}
-use Rattle.rules.specs.Formula.{Formula, existentials}
+use Rattle.rules.specs.definitions.Formula.{Formula, existentials}
 use Rattle.sets.specs.Values.{set-of}
 use Rattle.checker.specs.Game.{Prefixed, Bound-first}
 use Prim.Native.Nat.{_≤_, _-_}
 use lib.ListN.{length}
-use Rattle.rules.specs.Limits.{prefix-words}
+use Rattle.rules.specs.definitions.Layout.{prefix-words}
 use Rattle.checker.proofs.Games.{narrow-at, prefix-fits, word-inside, word-outside, universal-room, first-next, game-whole}
 use Rattle.checker.proofs.game.game_of.Statement.{statement}
 use Rattle.checker.proofs.game.game_of.Tie as tie

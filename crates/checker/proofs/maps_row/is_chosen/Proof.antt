@@ -1,6 +1,6 @@
 -- `checker::maps_row::is_chosen` meets its contract: the test of a bit is membership.
 use borrow.Author.Needs.{needs}
-use Rattle.rules.specs.Bits.{bit-test}
+use Rattle.theory.specs.laws.Bits.{bit-test}
 use Rattle.checker.proofs.maps_row.is_chosen.Statement.{statement}
 use Rattle.checker.proofs.maps_row.is_chosen.Tie as tie
 

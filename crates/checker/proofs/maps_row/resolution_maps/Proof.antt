@@ -5,9 +5,9 @@ use Prim.Native.Nat.{ℕ, _≤_, _<_, _-_}
 use native.Mathlib.Omega.{arith}
 use lib.ListN.{length}
 use borrow.Author.Needs.{needs}
-use Rattle.rules.specs.Limits.{universals-most}
-use Rattle.rules.specs.Formula.{Formula, universals}
-use Rattle.rules.specs.Lines.{Row}
+use Rattle.rules.specs.definitions.Limits.{universals-most}
+use Rattle.rules.specs.definitions.Formula.{Formula, universals}
+use Rattle.rules.specs.definitions.Lines.{Row}
 use Rattle.checker.specs.MapRows.{Resolving}
 use Rattle.checker.proofs.MapRows.{Lefts, Done, done-none, done-more, done-fails, done-all, game-lefts, game-variable}
 use Rattle.checker.proofs.maps_row.resolution_maps.Statement.{statement}

@@ -3,9 +3,9 @@ use Rattle.sets.specs.Values.{set-of, clause-of}
 use borrow.Author.Tests.{not-true, not-false}
 use mathlib.Core.Path.{refl, sym, ap, ap₂, _∙_}
 use native.Mathlib.Omega.{arith}
-use Rattle.rules.specs.Sets.{has}
-use Rattle.rules.specs.Formula.{resolvent, two-faced}
-use Rattle.rules.specs.Formula.{Clause as Literals}
+use Rattle.rules.specs.definitions.Sets.{has}
+use Rattle.rules.specs.definitions.Formula.{resolvent, two-faced}
+use Rattle.rules.specs.definitions.Formula.{Clause as Literals}
 use Rattle.sets.specs.Values.{clause-of}
 use Rattle.checker.proofs.Joins.{joins-a, joins-b, joins-pivot, joins-plain, joins-negated, joins-set, joins-two, joins-all, line-room, power, member-range}
 use borrow.Author.Needs.{needs}

@@ -2,7 +2,7 @@
 use mathlib.Core.Path.{ap, _∙_}
 use native.Mathlib.Omega.{arith}
 use Prim.Native.Nat.{_*_}
-use Rattle.rules.specs.Limits.{set-words}
+use Rattle.rules.specs.definitions.Layout.{set-words}
 use Rattle.sets.specs.Values.{clause-in}
 use Rattle.checker.proofs.Leaves.{row-within, row-part}
 use borrow.Author.Needs.{needs}

@@ -3,7 +3,8 @@ use mathlib.Core.Path.{refl}
 use native.Mathlib.Omega.{arith}
 use Prim.Native.Nat.{_*_}
 use lib.ListN.{length}
-use Rattle.rules.specs.Limits.{set-words, universals-most}
+use Rattle.rules.specs.definitions.Layout.{set-words}
+use Rattle.rules.specs.definitions.Limits.{universals-most}
 use Rattle.checker.proofs.Runs.{row-room, line-row-room, map-row-room, put-at}
 use borrow.Author.Needs.{needs}
 use Rattle.checker.proofs.run.put_line.Statement.{statement}

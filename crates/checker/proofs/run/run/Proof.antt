@@ -5,9 +5,9 @@ use native.Mathlib.Omega.{arith}
 use borrow.Author.Needs.{needs}
 use Prim.Native.Nat.{_-_, _≤_}
 use lib.ListN.{length, drop}
-use Rattle.rules.specs.Limits.{head-bytes}
-use Rattle.rules.specs.Formula.{Formula}
-use Rattle.rules.specs.File.{split}
+use Rattle.rules.specs.definitions.Layout.{head-bytes}
+use Rattle.rules.specs.definitions.Formula.{Formula}
+use Rattle.rules.specs.definitions.File.{split}
 use Rattle.checker.specs.Makes.{Whole}
 use Rattle.checker.specs.Runs.{So-far}
 use Rattle.checker.proofs.Runs.{so-far-none, ready, record-part, so-far-stop, so-far-more, so-far-all}

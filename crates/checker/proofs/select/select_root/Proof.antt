@@ -2,8 +2,8 @@
 use mathlib.Core.Path.{sym, _∙_}
 use Prim.Native.Nat.{_+_}
 use borrow.Author.Needs.{needs}
-use Rattle.rules.specs.Maps.{Column}
-use Rattle.rules.specs.Services.{table-column}
+use Rattle.rules.specs.definitions.Maps.{Column}
+use Rattle.rules.specs.definitions.Services.{table-column}
 use Rattle.checker.proofs.Selects.{select-second, select-first, select-third, select-one, select-none}
 use Rattle.checker.proofs.select.select_root.Statement.{statement}
 use Rattle.checker.proofs.select.select_root.Tie as tie

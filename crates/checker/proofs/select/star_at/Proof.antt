@@ -1,7 +1,7 @@
 -- `checker::select::star_at` meets its contract: the index is that of the column's word.
 use mathlib.Core.Path.{sym, ap, _∙_}
 use borrow.Author.Needs.{needs}
-use Rattle.rules.specs.Maps.{star?}
+use Rattle.rules.specs.definitions.Maps.{star?}
 use Rattle.maps.proofs.Plays.{table-node}
 use Rattle.checker.proofs.select.star_at.Statement.{statement}
 use Rattle.checker.proofs.select.star_at.Tie as tie

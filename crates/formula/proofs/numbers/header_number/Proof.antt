@@ -1,6 +1,6 @@
 -- `numbers::header_number` meets its contract.
 use mathlib.Core.Path.{sym, _∙_}
-use Rattle.rules.specs.Text.{number-of}
+use Rattle.rules.specs.definitions.Text.{number-of}
 use Rattle.formula.proofs.NumberLaws.{header-none, header-negated, header-past, header-within}
 use borrow.Author.Needs.{needs}
 use Rattle.formula.proofs.numbers.header_number.Statement.{statement}

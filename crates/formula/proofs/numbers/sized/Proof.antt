@@ -6,8 +6,8 @@ use mir.Syntax.{w32}
 use mir.Facts.{toZ-ofZ}
 use borrow.Author.Needs.{needs}
 use lib.ListN.{length, drop}
-use Rattle.rules.specs.Limits.{number-most}
-use Rattle.rules.specs.Text.{sized}
+use Rattle.rules.specs.definitions.Limits.{number-most}
+use Rattle.rules.specs.definitions.Text.{sized}
 use Rattle.formula.proofs.NumberLaws.{same-token, sized-end, sized-low, sized-high, sized-in}
 use Rattle.formula.proofs.numbers.sized.Statement.{statement}
 use Rattle.formula.proofs.numbers.sized.Tie as tie

@@ -5,9 +5,9 @@ use native.Mathlib.Omega.{arith}
 use lib.Signed.{mag}
 use mir.Syntax.{w32}
 use mir.Facts.{toZ-ofZ}
-use Rattle.rules.specs.Limits.{number-most}
-use Rattle.rules.specs.Text.{Number, number-of}
-use Rattle.rules.specs.Text.Number.{number}
+use Rattle.rules.specs.definitions.Limits.{number-most}
+use Rattle.rules.specs.definitions.Text.{Number, number-of}
+use Rattle.rules.specs.definitions.Text.Number.{number}
 use Rattle.formula.specs.declared.numbers.Answer.the-variants as A
 use Rattle.formula.specs.Numbers.{literal-of, answer-of}
 use Rattle.formula.proofs.NumberLaws.{told-number, told-refused, number-small}

@@ -1,6 +1,6 @@
 -- `reading::finish` meets its contract: by the place.
 use mathlib.Core.Path.{refl}
-use Rattle.rules.specs.Limits.{bad-token}
+use Rattle.rules.specs.definitions.Refusals.{bad-token}
 use Rattle.formula.specs.declared.states.Place.the-variants as P
 use Rattle.formula.specs.declared.reading.Outcome.the-variants as O
 use Rattle.formula.proofs.ReadingLaws.{ends-at}

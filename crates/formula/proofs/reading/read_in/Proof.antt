@@ -2,8 +2,8 @@
 use mathlib.Core.List.{List}
 use Prim.Native.Nat.{ℕ}
 use native.Mathlib.Omega.{arith}
-use Rattle.rules.specs.Limits.{prefix-words, clause-words}
-use Rattle.rules.specs.TableLaws.{cleared, cleared-length}
+use Rattle.rules.specs.definitions.Layout.{prefix-words, clause-words}
+use Rattle.theory.specs.laws.Tables.{cleared, cleared-length}
 use Rattle.formula.proofs.ReadingLaws.{left-refused, left-formula}
 use borrow.Author.Needs.{needs}
 use Rattle.formula.proofs.reading.read_in.Statement.{statement}

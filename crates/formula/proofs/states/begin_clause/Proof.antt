@@ -1,9 +1,9 @@
 -- `states::begin_clause` meets its contract.
 use mathlib.Core.Path.{refl, sym, ap, _∙_, subst}
 use native.Mathlib.Omega.{arith}
-use Rattle.rules.specs.Formula.{Clause}
-use Rattle.rules.specs.Text.{number-of}
-use Rattle.rules.specs.Reading.{Next, clause-token}
+use Rattle.rules.specs.definitions.Formula.{Clause}
+use Rattle.rules.specs.definitions.Text.{number-of}
+use Rattle.rules.specs.definitions.Reading.{Next, clause-token}
 use Rattle.formula.specs.States.{state-of, After}
 use Rattle.formula.proofs.StepLaws.{clauses-complete, clause-begins}
 use borrow.Author.Needs.{needs}

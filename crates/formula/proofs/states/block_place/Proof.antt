@@ -1,7 +1,7 @@
 -- `states::block_place` meets its contract.
 use mathlib.Core.Path.{sym, _∙_, subst}
 use mathlib.Core.Bool.{true, false}
-use Rattle.rules.specs.Reading.{Next, block-place}
+use Rattle.rules.specs.definitions.Reading.{Next, block-place}
 use Rattle.formula.specs.declared.states.Place.the-variants as P
 use Rattle.formula.specs.States.{state-of, After}
 use Rattle.formula.proofs.StateLaws.{after-moved}

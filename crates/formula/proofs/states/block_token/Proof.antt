@@ -3,11 +3,11 @@ use mathlib.Core.Path.{refl, sym, ap, _∙_}
 use mathlib.Core.Bool.{Bool, cond}
 use Prim.Native.Nat.{ℕ, _+_}
 use native.Mathlib.Omega.{arith}
-use Rattle.rules.specs.Limits.{bad-token}
-use Rattle.rules.specs.Text.{number-of}
-use Rattle.rules.specs.Reading.{moved, block-token}
-use Rattle.rules.specs.Reading.Next.{stop, go}
-use Rattle.rules.specs.Reading.Place.{at-block}
+use Rattle.rules.specs.definitions.Refusals.{bad-token}
+use Rattle.rules.specs.definitions.Text.{number-of}
+use Rattle.rules.specs.definitions.Reading.{moved, block-token}
+use Rattle.rules.specs.definitions.Reading.Next.{stop, go}
+use Rattle.rules.specs.definitions.Reading.Place.{at-block}
 use Rattle.formula.specs.declared.states.Place.the-variants as P
 use Rattle.formula.specs.States.{quant-of, state-of}
 use Rattle.formula.proofs.StateLaws.{after-moved, after-bind, one-universal-more, no-universal-more, universal-word, existential-word, full-yes, full-no, full-never}

@@ -1,10 +1,10 @@
 -- `states::clause_token` meets its contract: each return by the tests that led there.
 use mathlib.Core.Path.{refl, sym, ap, _∙_}
-use Rattle.rules.specs.Formula.{Clause}
-use Rattle.rules.specs.Text.{number-of}
-use Rattle.rules.specs.Reading.{moved, clause-token}
-use Rattle.rules.specs.Reading.Next.{go}
-use Rattle.rules.specs.Reading.Place.{in-clause}
+use Rattle.rules.specs.definitions.Formula.{Clause}
+use Rattle.rules.specs.definitions.Text.{number-of}
+use Rattle.rules.specs.definitions.Reading.{moved, clause-token}
+use Rattle.rules.specs.definitions.Reading.Next.{go}
+use Rattle.rules.specs.definitions.Reading.Place.{in-clause}
 use Rattle.sets.specs.Values.{clause-of}
 use Rattle.formula.specs.declared.states.Place.the-variants as P
 use Rattle.formula.specs.States.{state-of}

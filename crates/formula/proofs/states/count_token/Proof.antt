@@ -1,8 +1,8 @@
 -- `states::count_token` meets its contract.
 use mathlib.Core.Path.{sym, _∙_}
-use Rattle.rules.specs.Limits.{clauses-most}
-use Rattle.rules.specs.Text.{number-of}
-use Rattle.rules.specs.Reading.{with-count}
+use Rattle.rules.specs.definitions.Limits.{clauses-most}
+use Rattle.rules.specs.definitions.Text.{number-of}
+use Rattle.rules.specs.definitions.Reading.{with-count}
 use Rattle.formula.specs.States.{state-of}
 use Rattle.formula.proofs.StateLaws.{stands-count}
 use Rattle.formula.proofs.StepLaws.{after-header, limited-header}

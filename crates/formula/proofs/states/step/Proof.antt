@@ -1,6 +1,6 @@
 -- `states::step` meets its contract: by the place.
 use mathlib.Core.Path.{subst}
-use Rattle.rules.specs.Reading.{word-p, word-cnf}
+use Rattle.rules.specs.definitions.Reading.{word-p, word-cnf}
 use Rattle.formula.specs.declared.states.Place.{Place}
 use Rattle.formula.specs.declared.states.Place.the-variants as P
 use Rattle.formula.specs.States.{Room}

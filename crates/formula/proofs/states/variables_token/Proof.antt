@@ -1,8 +1,8 @@
 -- `states::variables_token` meets its contract.
 use mathlib.Core.Path.{sym, _∙_}
-use Rattle.rules.specs.Limits.{variables-most}
-use Rattle.rules.specs.Text.{number-of}
-use Rattle.rules.specs.Reading.{with-variables}
+use Rattle.rules.specs.definitions.Limits.{variables-most}
+use Rattle.rules.specs.definitions.Text.{number-of}
+use Rattle.rules.specs.definitions.Reading.{with-variables}
 use Rattle.formula.specs.States.{state-of}
 use Rattle.formula.proofs.StateLaws.{stands-variables}
 use Rattle.formula.proofs.StepLaws.{after-header, limited-header}

@@ -6,7 +6,7 @@ use native.Mathlib.Omega.{arith}
 use native.Mathlib.Nat.{le-antisymm}
 use borrow.Author.Needs.{needs}
 use borrow.Author.Fill.{fill-more}
-use Rattle.rules.specs.TableLaws.{holding-none}
+use Rattle.theory.specs.laws.Tables.{holding-none}
 use lib.ListN.{length, set, drop, replicate, length-set}
 use Rattle.formula.proofs.tables.clear.Statement.{statement}
 use Rattle.formula.proofs.tables.clear.Tie as tie

@@ -4,7 +4,7 @@ use Prim.Native.Nat.{_+_, _-_, _≤_}
 use native.Mathlib.Omega.{arith}
 use borrow.Author.Needs.{needs}
 use lib.ListN.{length, drop}
-use Rattle.rules.specs.Text.{separator, lead}
+use Rattle.rules.specs.definitions.Text.{separator, lead}
 use Rattle.formula.proofs.TokenLaws.{lead-in, lead-out, lead-end}
 use Rattle.formula.proofs.words.skip.Statement.{statement}
 use Rattle.formula.proofs.words.skip.Tie as tie

@@ -5,7 +5,7 @@ use Prim.Native.Nat.{_+_, _-_, _≤_}
 use native.Mathlib.Omega.{arith}
 use borrow.Author.Needs.{needs}
 use lib.ListN.{length, drop}
-use Rattle.rules.specs.Text.{token-byte, lead}
+use Rattle.rules.specs.definitions.Text.{token-byte, lead}
 use Rattle.formula.proofs.TokenLaws.{lead-in, lead-out, lead-end}
 use Rattle.formula.proofs.words.word_end.Statement.{statement}
 use Rattle.formula.proofs.words.word_end.Tie as tie

@@ -1,6 +1,6 @@
 -- `malintok::checks::clear_formula` meets its contract: each table by itself.
 use native.Mathlib.Omega.{arith}
-use Rattle.rules.specs.Limits.{prefix-words, clause-words}
+use Rattle.rules.specs.definitions.Layout.{prefix-words, clause-words}
 use borrow.Author.Needs.{needs}
 use Rattle.malintok.proofs.checks.clear_formula.Statement.{statement}
 use Rattle.malintok.proofs.checks.clear_formula.Tie as tie

@@ -1,6 +1,6 @@
 -- `malintok::checks::clear_maps` meets its contract: each table by itself.
 use native.Mathlib.Omega.{arith}
-use Rattle.rules.specs.Limits.{line-words, map-words}
+use Rattle.rules.specs.definitions.Layout.{line-words, map-words}
 use borrow.Author.Needs.{needs}
 use Rattle.malintok.proofs.checks.clear_maps.Statement.{statement}
 use Rattle.malintok.proofs.checks.clear_maps.Tie as tie

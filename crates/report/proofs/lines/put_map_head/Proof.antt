@@ -1,7 +1,7 @@
 -- `report::lines::put_map_head` meets its contract.
 use native.Mathlib.Omega.{arith}
 use borrow.Author.Needs.{needs}
-use Rattle.rules.specs.Bytes.{text}
+use Rattle.rules.specs.definitions.Bytes.{text}
 use Rattle.report.proofs.Laws.{then}
 use Rattle.report.proofs.lines.put_map_head.Statement.{statement}
 use Rattle.report.proofs.lines.put_map_head.Tie as tie

@@ -1,7 +1,7 @@
 -- `report::lines::put_refused` meets its contract: the parts of a refusal are put one behind the other.
 use borrow.Author.Needs.{needs}
-use Rattle.rules.specs.Bytes.{text}
-use Rattle.rules.specs.Report.{refused-line}
+use Rattle.rules.specs.definitions.Bytes.{text}
+use Rattle.rules.specs.definitions.Report.{refused-line}
 use Rattle.report.proofs.Laws.{then}
 use Rattle.report.proofs.lines.put_refused.Statement.{statement}
 use Rattle.report.proofs.lines.put_refused.Tie as tie

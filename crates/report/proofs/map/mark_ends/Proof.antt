@@ -3,7 +3,7 @@ use mathlib.Core.Path.{sym, ap, subst}
 use native.Mathlib.Omega.{arith}
 use lib.ListN.{length-set}
 use borrow.Author.Needs.{needs}
-use Rattle.rules.specs.MapLaws.{In-range}
+use Rattle.rules.specs.statements.Sound.{In-range}
 use Rattle.report.specs.Marks.{with-ends}
 use Rattle.report.proofs.map.mark_ends.Statement.{statement}
 use Rattle.report.proofs.map.mark_ends.Tie as tie

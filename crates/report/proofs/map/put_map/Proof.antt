@@ -1,7 +1,7 @@
 -- `report::map::put_map` meets its contract: the head, then the nodes.
 use native.Mathlib.Omega.{arith}
 use borrow.Author.Needs.{needs}
-use Rattle.rules.specs.Report.{map-lines}
+use Rattle.rules.specs.definitions.Report.{map-lines}
 use Rattle.report.proofs.Laws.{then}
 use Rattle.report.proofs.map.put_map.Statement.{statement}
 use Rattle.report.proofs.map.put_map.Tie as tie

@@ -2,7 +2,7 @@
 use Prim.Native.Nat.{_+_}
 use native.Mathlib.Omega.{arith}
 use borrow.Author.Needs.{needs}
-use Rattle.rules.specs.Services.{table-column}
+use Rattle.rules.specs.definitions.Services.{table-column}
 use Rattle.report.proofs.Falling.{Falls, falls-begin, falls-over, falls-put, falls-end}
 use Rattle.report.proofs.map.put_nodes.Statement.{statement}
 use Rattle.report.proofs.map.put_nodes.Tie as tie

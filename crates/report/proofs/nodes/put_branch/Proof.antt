@@ -1,7 +1,7 @@
 -- `report::nodes::put_branch` meets its contract: the six parts of a branch's text are put one behind the other.
 use native.Mathlib.Omega.{arith}
 use borrow.Author.Needs.{needs}
-use Rattle.rules.specs.Bytes.{text}
+use Rattle.rules.specs.definitions.Bytes.{text}
 use Rattle.report.proofs.Laws.{then}
 use Rattle.report.proofs.nodes.put_branch.Statement.{statement}
 use Rattle.report.proofs.nodes.put_branch.Tie as tie

@@ -2,7 +2,7 @@
 use mathlib.Core.Path.{sym, ap}
 use native.Mathlib.Omega.{arith}
 use borrow.Author.Needs.{needs}
-use Rattle.rules.specs.Report.{node-text}
+use Rattle.rules.specs.definitions.Report.{node-text}
 use Rattle.report.proofs.Laws.{retext, nothing}
 use Rattle.report.proofs.nodes.put_node.Statement.{statement}
 use Rattle.report.proofs.nodes.put_node.Tie as tie

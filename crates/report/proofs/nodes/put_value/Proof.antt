@@ -2,8 +2,8 @@
 use mathlib.Core.Path.{sym, ap}
 use native.Mathlib.Omega.{arith}
 use borrow.Author.Needs.{needs}
-use Rattle.rules.specs.Bytes.{text}
-use Rattle.rules.specs.Report.{value-name}
+use Rattle.rules.specs.definitions.Bytes.{text}
+use Rattle.rules.specs.definitions.Report.{value-name}
 use Rattle.report.proofs.Laws.{retext}
 use Rattle.report.proofs.nodes.put_value.Statement.{statement}
 use Rattle.report.proofs.nodes.put_value.Tie as tie

@@ -70,7 +70,7 @@ returns c =
     (A, omega (arith, A .next-is, length-decimal (c .before .before .before .before .before .before .before .before .before .before .args .n) (omega arith)))
   where
     whole : (ds : List ℕ) (from left : ℕ) → Digits (c .before .before .before .before .before .before .before .before .before .before .args .n) ds from left → left < 10
-        → take (10 - from) (drop from ds) ≡ Rattle.rules.specs.Report.decimal (c .before .before .before .before .before .before .before .before .before .before .args .n)
+        → take (10 - from) (drop from ds) ≡ Rattle.rules.specs.definitions.Report.decimal (c .before .before .before .before .before .before .before .before .before .before .args .n)
     whole ds from left D h = take-all (10 - from) (drop from ds) (omega (arith, length-drop from ds, D .ten)) ∙ digits-end _ ds from left D h
 
 pub put-decimal-spec : {M : Type 1} → statement M

@@ -1,6 +1,6 @@
 -- The opposite literal is looked for in the set of the other sign.
 use borrow.Author.Needs.{needs}
-use Rattle.rules.specs.Formula.{has-opposite}
+use Rattle.rules.specs.definitions.Formula.{has-opposite}
 use Rattle.sets.specs.Values.{clause-of}
 use Rattle.sets.proofs.Clause.has_opposite.Statement.{statement}
 use Rattle.sets.proofs.Clause.has_opposite.Tie as tie

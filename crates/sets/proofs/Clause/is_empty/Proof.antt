@@ -1,7 +1,7 @@
 -- No literal stands in the clause where both sets are empty.
 use mathlib.Core.Path.{sym}
 use borrow.Author.Needs.{needs}
-use Rattle.rules.specs.Formula.{empty-clause}
+use Rattle.rules.specs.definitions.Formula.{empty-clause}
 use Rattle.sets.specs.Values.{clause-of}
 use Rattle.sets.proofs.Clause.is_empty.Statement.{statement}
 use Rattle.sets.proofs.Clause.is_empty.Tie as tie

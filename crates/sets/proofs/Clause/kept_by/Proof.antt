@@ -1,6 +1,6 @@
 -- Each set keeps what is among the given variables.
 use borrow.Author.Needs.{needs}
-use Rattle.rules.specs.Formula.{kept-by}
+use Rattle.rules.specs.definitions.Formula.{kept-by}
 use Rattle.sets.specs.Values.{clause-of}
 use Rattle.sets.proofs.Clause.kept_by.Statement.{statement}
 use Rattle.sets.proofs.Clause.kept_by.Tie as tie

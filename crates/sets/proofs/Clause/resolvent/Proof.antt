@@ -1,6 +1,6 @@
 -- The two clauses without the two literals, joined, are the resolvent.
 use borrow.Author.Needs.{needs}
-use Rattle.rules.specs.Formula.{resolvent}
+use Rattle.rules.specs.definitions.Formula.{resolvent}
 use Rattle.sets.proofs.Clause.resolvent.Statement.{statement}
 use Rattle.sets.proofs.Clause.resolvent.Tie as tie
 

@@ -1,6 +1,6 @@
 -- A variable stands both ways where the two sets meet.
 use borrow.Author.Needs.{needs}
-use Rattle.rules.specs.Formula.{two-faced}
+use Rattle.rules.specs.definitions.Formula.{two-faced}
 use Rattle.sets.specs.Values.{clause-of}
 use Rattle.sets.proofs.Clause.two_faced.Statement.{statement}
 use Rattle.sets.proofs.Clause.two_faced.Tie as tie

@@ -1,6 +1,6 @@
 -- The literal goes into the set of its sign.
 use borrow.Author.Needs.{needs}
-use Rattle.rules.specs.Formula.{with-literal}
+use Rattle.rules.specs.definitions.Formula.{with-literal}
 use Rattle.sets.specs.Values.{clause-of}
 use Rattle.sets.proofs.Clause.with.Statement.{statement}
 use Rattle.sets.proofs.Clause.with.Tie as tie

@@ -3,7 +3,7 @@ use mathlib.Core.List.{List}
 use mathlib.Core.Path.{ap₂, _∙_}
 use Prim.Native.Nat.{ℕ}
 use borrow.Author.Needs.{needs}
-use Rattle.rules.specs.Limits.{set-words}
+use Rattle.rules.specs.definitions.Layout.{set-words}
 use Rattle.sets.specs.Values.{set-of, clause-of, put-in, length-set-of}
 use Rattle.sets.proofs.Words.{both-written}
 use Rattle.sets.proofs.Clause.write.Statement.{statement}

@@ -3,7 +3,7 @@ use mathlib.Core.Path.{sym, _∙_}
 use Prim.Native.Nat.{_-_}
 use native.Mathlib.Omega.{arith}
 use borrow.Author.Needs.{needs}
-use Rattle.rules.specs.Bits.{bit-test}
+use Rattle.theory.specs.laws.Bits.{bit-test}
 use Rattle.sets.specs.Values.{set-of}
 use Rattle.sets.proofs.Words.{has-no-variable, has-outside, has-word}
 use Rattle.sets.proofs.Set.has.Statement.{statement}

@@ -1,6 +1,6 @@
 -- Or of the words is the union.
 use mathlib.Core.Path.{refl}
-use Rattle.rules.specs.Sets.{join}
+use Rattle.rules.specs.definitions.Sets.{join}
 use Rattle.sets.specs.Values.{set-of}
 use Rattle.sets.proofs.Set.join.Statement.{statement}
 use Rattle.sets.proofs.Set.join.Tie as tie

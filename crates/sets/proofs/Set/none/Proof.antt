@@ -1,7 +1,7 @@
 -- The word 0 is the set with no variable.
 use mathlib.Core.Path.{refl}
-use Rattle.rules.specs.Limits.{set-words}
-use Rattle.rules.specs.Sets.{none}
+use Rattle.rules.specs.definitions.Layout.{set-words}
+use Rattle.rules.specs.definitions.Sets.{none}
 use Rattle.sets.specs.Values.{set-of}
 use Rattle.sets.proofs.Set.none.Statement.{statement}
 use Rattle.sets.proofs.Set.none.Tie as tie

@@ -1,6 +1,6 @@
 -- And of the words is what is in both.
 use mathlib.Core.Path.{refl}
-use Rattle.rules.specs.Sets.{only}
+use Rattle.rules.specs.definitions.Sets.{only}
 use Rattle.sets.specs.Values.{set-of}
 use Rattle.sets.proofs.Set.only.Statement.{statement}
 use Rattle.sets.proofs.Set.only.Tie as tie

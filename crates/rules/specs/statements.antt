@@ -1,0 +1,10 @@
+pub mod Proper
+pub mod Good
+pub mod Proves
+pub mod Sound
+pub mod Follows
+pub mod Held
+pub mod Plays
+pub mod Countermodel
+pub mod Verdict
+pub mod Answered

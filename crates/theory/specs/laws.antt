@@ -1,0 +1,13 @@
+pub mod Bits
+pub mod Sets
+pub mod Formula
+pub mod Reading
+pub mod File
+pub mod Maps
+pub mod Comparing
+pub mod Listed
+pub mod Lines
+pub mod Tables
+pub mod Playing
+pub mod Report
+pub mod Paper

@@ -1,0 +1,1 @@
+// Laws and theorems about the rules; there is no code here.
