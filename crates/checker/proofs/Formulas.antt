@@ -10,11 +10,11 @@ use Rattle.rules.specs.declared.Line.the-variants as L
 use Rattle.rules.specs.definitions.Layout.{set-words, clause-words}
 use Rattle.rules.specs.definitions.Limits.{clauses-most, universals-most}
 use Rattle.rules.specs.definitions.Faults.{first-of}
-use Rattle.rules.specs.definitions.Formula.{Formula, universals, existentials, no-literal, kept-by}
+use Rattle.rules.specs.definitions.Formula.{Formula, universals, no-literal, kept-by}
 use Rattle.theory.specs.laws.Formula.{Worded}
 use Rattle.rules.specs.statements.Proper.{Proper}
 use Rattle.theory.specs.laws.Lines.{numbered-in, line-follows}
-use Rattle.rules.specs.definitions.Lines.{Row, house, clause-number, leaf-entry, each, axiom-row, line-faults, line-row, line-made}
+use Rattle.rules.specs.definitions.Lines.{Row, clause-number, leaf-entry, each, axiom-row, line-faults, line-row, line-made, Rules}
 use Rattle.rules.specs.definitions.Tables.{padded, clause-row}
 use Rattle.sets.specs.Values.{set-of, clause-of, clause-in, clause-in-row, length-clause-row}
 use Rattle.checker.specs.declared.game.Game.{Game}
@@ -37,7 +37,7 @@ pub clause-room : (c : ℕ) → c ≤ clauses-most → 2 * set-words * c ≤ cla
 unfolding set-words clause-words
 clause-room c h = omega arith
 
-module _ (F : Formula) (g : Game) (clauses : List ℕ) (W : Whole F g clauses) where
+module _ (R : Rules) (F : Formula) (g : Game) (clauses : List ℕ) (W : Whole R F g clauses) where
   -- the words of a clause lie in the table
   pub clause-within : (c : ℕ) → c ≤ g .count → 2 * set-words * c ≤ length clauses
   clause-within c h = omega (arith, clause-room c (omega (arith, W .game .count, W .proper .clauses)), W .long)
@@ -59,19 +59,19 @@ module _ (F : Formula) (g : Game) (clauses : List ℕ) (W : Whole F g clauses) w
 
   -- ---- the axiom's tests and its row
   module _ (rows : List Row) (i c : ℕ) where
-    pub axiom-none : (m : Made) → c < 1 → (m .refusal ≡ 23) × (m .variable ≡ 0) → Makes (line-made (house F) F rows i (L.Axiom c)) m
+    pub axiom-none : (m : Made) → c < 1 → (m .refusal ≡ 23) × (m .variable ≡ 0) → Makes (line-made R F rows i (L.Axiom c)) m
     unfolding line-made line-faults line-row first-of
     axiom-none m h e = rw (lt-ltb c 1 h) (e .0, e .1, omega arith)
 
-    pub axiom-past : (m : Made) → 1 ≤ c → g .count < c → (m .refusal ≡ 23) × (m .variable ≡ 0) → Makes (line-made (house F) F rows i (L.Axiom c)) m
+    pub axiom-past : (m : Made) → 1 ≤ c → g .count < c → (m .refusal ≡ 23) × (m .variable ≡ 0) → Makes (line-made R F rows i (L.Axiom c)) m
     unfolding line-made line-faults line-row first-of
     axiom-past m o h e = rw (le-ltb c 1 o, lt-ltb (length (F .matrix)) c (omega (arith, W .game .count))) (e .0, e .1, omega arith)
 
     pub axiom-makes : (m : Made) → 1 ≤ c → c ≤ g .count → m .refusal ≡ 0 → clause-of (m .clause) ≡ kept-by (set-of (g .existentials)) (clause-part clauses c)
-        → Row-of (each (leaf-entry (clause-part clauses c) i) (players (g .universals) (g .vars)) 0) (m .row) → Makes (line-made (house F) F rows i (L.Axiom c)) m
+        → Row-of (each (leaf-entry (clause-part clauses c) i) (players (g .universals) (g .vars)) 0) (m .row) → Makes (line-made R F rows i (L.Axiom c)) m
     unfolding axiom-row
     axiom-makes m o h z k r =
-        rw (line-follows (house F) F rows i (L.Axiom c) (axiom-row F i c) .1 ((o, omega (arith, W .game .count)), refl)) (
+        rw (line-follows R F rows i (L.Axiom c) (axiom-row F i c) .1 ((o, omega (arith, W .game .count)), refl)) (
           z,
           k ∙ rw (W .game .existential-set, clause-read c o h),
           (rw (players-are, clause-read c o h) at r),

@@ -26,6 +26,7 @@ use Rattle.sets.specs.Values.{set-of}
 use Rattle.checker.specs.declared.game.Game.{Game}
 use Rattle.checker.specs.Game.{Prefixed, Narrow, with-word, left-set, Game-of, Bound-first, Bound-more, More-exists, More-forall}
 use Rattle.theory.specs.laws.Tables.{holding-at, holding-past, padded-more}
+use Rattle.rules.specs.definitions.Checking.{base, rules-of}
 
 -- ---- left of a place of the prefix are the variables before it
 pub left-taken : (Q : List Bound) → Distinct Q → (p x : ℕ) → p < length Q → left-of Q x (var-at Q p) ≡ bound (take p Q) x
@@ -259,10 +260,12 @@ first-next F t long P i l g r B M = rw (add-one i) (first-more F t long P i l g 
 
 -- all variables bound: the game
 pub game-whole : (F : Formula) (i : ℕ) (g : Game) → length (F .prefix) ≤ i → g .count ≡ length (F .matrix) → set-of (g .existentials) ≡ existentials (F .prefix)
-    → Bound-first (F .prefix) i g → Game-of F g
-game-whole F i g h n e B =
+    → Bound-first (F .prefix) i g → (s : List ℕ) → Game-of (rules-of base F s) F g
+game-whole F i g h n e B s =
     let t : take i (F .prefix) ≡ F .prefix = take-all i (F .prefix) h in
     record {
+      decodes = refl;
+      ground = refl;
       count = n;
       universal-count = rw t at (B .universal-count);
       existential-set = e;

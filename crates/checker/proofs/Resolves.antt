@@ -2,7 +2,7 @@
 use mathlib.Core.Path.{_≡_, refl, sym, ap, ap₂, _∙_}
 use mathlib.Core.Bool.{Bool, true, false, not, _||_}
 use mathlib.Core.List.{List, [], _∷_, _++_}
-use Prim.Native.Nat.{ℕ, zero, suc, _+_, _-_, _*_, _≤_}
+use Prim.Native.Nat.{ℕ, zero, suc, _-_, _*_, _≤_}
 use native.Mathlib.Omega.{arith}
 use lib.ListN.{length}
 use borrow.Author.Tests.{not-false}
@@ -12,12 +12,12 @@ use Rattle.rules.specs.definitions.Layout.{set-words, line-words}
 use Rattle.rules.specs.definitions.Sets.{has}
 use Rattle.rules.specs.definitions.Faults.{Fault, Found, first-of}
 use Rattle.rules.specs.definitions.Faults.Found.{passes, fails}
-use Rattle.rules.specs.definitions.Formula.{Formula, bound-by, universals, existentials, resolvent}
+use Rattle.rules.specs.definitions.Formula.{Formula, bound-by, universals, resolvent}
 use Rattle.rules.specs.definitions.Formula.{Clause as Literals}
 use Rattle.rules.specs.definitions.Formula.Quant.{exists}
 use Rattle.theory.specs.laws.Formula.{has-existentials, proper-fits}
 use Rattle.theory.specs.laws.Lines.{passes-cons, neither, earlier-iff, good-words}
-use Rattle.rules.specs.definitions.Lines.{Entry, Row, no-row, house, earlier, row-at, clause-at, result, in-set, parent-faults, set-faults, result-faults, map-faults, map-entry, each, resolution-row, unless-found, line-faults, line-row, line-made}
+use Rattle.rules.specs.definitions.Lines.{Entry, Row, no-row, earlier, row-at, clause-at, result, in-set, parent-faults, set-faults, result-faults, map-faults, map-entry, each, resolution-row, unless-found, line-faults, line-row, line-made, Rules}
 use Rattle.rules.specs.definitions.Tables.{clause-row}
 use Rattle.sets.specs.Values.{set-of, clause-of, clause-in, clause-in-row, length-clause-row}
 use Rattle.checker.specs.declared.game.Game.{Game}
@@ -46,20 +46,20 @@ first-passes [] gs e = refl
 first-passes (f ∷ fs) gs e = let p = passes-cons f fs .0 e in rw (first-of, p .0) (first-passes fs gs (p .1))
 
 -- the clause of line a, read from the line table
-pub standing-read : (F : Formula) (rows : List Row) (lines lines₀ nodes nodes₀ roots roots₀ : List ℕ) → Standing F rows lines lines₀ nodes nodes₀ roots roots₀
+pub standing-read : (R : Rules) (F : Formula) (rows : List Row) (lines lines₀ nodes nodes₀ roots roots₀ : List ℕ) → Standing R F rows lines lines₀ nodes nodes₀ roots roots₀
     → (a : ℕ) → 1 ≤ a → a ≤ length rows → clause-part lines a ≡ clause-at rows a
 unfolding row-at
-standing-read F rows lines lines₀ nodes nodes₀ roots roots₀ S zero o h = absurd (omega arith)
-standing-read F rows lines lines₀ nodes nodes₀ roots roots₀ S (suc a) o h =
+standing-read R F rows lines lines₀ nodes nodes₀ roots roots₀ S zero o h = absurd (omega arith)
+standing-read R F rows lines lines₀ nodes nodes₀ roots roots₀ S (suc a) o h =
     let m : suc a - 1 ≡ a = omega arith in
     let W : Wide (2 * set-words) (λ (r : Row). clause-row (r .clause)) no-row rows
-    = λ k p. length-clause-row _ (good-words (house F) F rows (suc k) (S .good (suc k) (omega arith) (omega arith))) in
+    = λ k p. length-clause-row _ (good-words R F rows (suc k) (S .good (suc k) (omega arith) (omega arith))) in
     rw m (
     ap clause-in (table-part (2 * set-words) line-words (λ (r : Row). clause-row (r .clause)) no-row rows lines₀ lines W (S .in-lines) a h)
-    ∙ clause-in-row (clause-at rows (suc a)) (good-words (house F) F rows (suc a) (S .good (suc a) o h))
+    ∙ clause-in-row (clause-at rows (suc a)) (good-words R F rows (suc a) (S .good (suc a) o h))
     )
 
-module _ (F : Formula) (rows : List Row) (g : Game) (clauses lines lines₀ nodes nodes₀ roots roots₀ : List ℕ) (i : ℕ) (S : Ready F rows g clauses lines lines₀ nodes nodes₀ roots roots₀ i) where
+module _ (R : Rules) (F : Formula) (rows : List Row) (g : Game) (clauses lines lines₀ nodes nodes₀ roots roots₀ : List ℕ) (i : ℕ) (S : Ready R F rows g clauses lines lines₀ nodes nodes₀ roots roots₀ i) where
   module _ (r : Resolution) where
     abbrev tests : List Fault
     tests = clause-tests (set-of (g .existentials)) (g .universals) lines i r
@@ -70,10 +70,10 @@ module _ (F : Formula) (rows : List Row) (g : Game) (clauses lines lines₀ node
     -- with both parents before line i the tests are the rules'
     module _ (a : earlier i (r .a) ≡ true) (b : earlier i (r .b) ≡ true) where
       read-a : clause-part lines (r .a) ≡ clause-at rows (r .a)
-      read-a = let p = earlier-iff i (r .a) .0 a in standing-read F rows lines lines₀ nodes nodes₀ roots roots₀ (S .standing) (r .a) (p .0) (omega (arith, p .1, S .line))
+      read-a = let p = earlier-iff i (r .a) .0 a in standing-read R F rows lines lines₀ nodes nodes₀ roots roots₀ (S .standing) (r .a) (p .0) (omega (arith, p .1, S .line))
 
       read-b : clause-part lines (r .b) ≡ clause-at rows (r .b)
-      read-b = let p = earlier-iff i (r .b) .0 b in standing-read F rows lines lines₀ nodes nodes₀ roots roots₀ (S .standing) (r .b) (p .0) (omega (arith, p .1, S .line))
+      read-b = let p = earlier-iff i (r .b) .0 b in standing-read R F rows lines lines₀ nodes nodes₀ roots roots₀ (S .standing) (r .b) (p .0) (omega (arith, p .1, S .line))
 
       result-same : table-result lines r ≡ result rows r
       result-same = ap₂ (λ (c d : Literals). resolvent c d (r .pivot)) read-a read-b
@@ -90,10 +90,10 @@ module _ (F : Formula) (rows : List Row) (g : Game) (clauses lines lines₀ node
         (not-false _ (n .0), not-false _ (n .1), not-false _ (q .0))
 
     abbrev faults : List Fault
-    faults = line-faults (house F) F rows i (L.Resolve r)
+    faults = line-faults R F rows i (L.Resolve r)
 
     abbrev maps : List Fault
-    maps = map-faults (house F) F rows r (in-set (r .merge))
+    maps = map-faults R F rows r (in-set (r .merge))
 
     -- the tests, then those of the maps, are the line's
     all-same : earlier i (r .a) ≡ true → earlier i (r .b) ≡ true → tests ++ maps ≡ faults
@@ -122,11 +122,12 @@ module _ (F : Formula) (rows : List Row) (g : Game) (clauses lines lines₀ node
     faults-maps e = let p = tests-passed e in ap first-of (sym (all-same (p .0) (p .1))) ∙ first-passes tests maps e
 
     -- line i resolves
-    pub resolving : first-of tests ≡ passes → Resolving F rows nodes nodes₀ roots roots₀ r i
+    pub resolving : first-of tests ≡ passes → Resolving R F rows nodes nodes₀ roots roots₀ r i
     resolving e =
         let p = tests-passed e in
         record {
           proper = S .whole .proper;
+          ground = S .whole .game .ground;
           good = S .standing .good;
           in-nodes = S .standing .in-nodes;
           in-roots = S .standing .in-roots;
@@ -138,18 +139,18 @@ module _ (F : Formula) (rows : List Row) (g : Game) (clauses lines lines₀ node
         }
 
     abbrev entries : List Entry
-    entries = each (map-entry (house F) rows i r (in-set (r .merge))) (universals (F .prefix)) 0
+    entries = each (map-entry R rows i r (in-set (r .merge))) (universals (F .prefix)) 0
 
-    made-by : (t : Found) → first-of faults ≡ t → line-made (house F) F rows i (L.Resolve r) ≡ unless-found t (resolution-row (house F) F rows i r (in-set (r .merge)))
+    made-by : (t : Found) → first-of faults ≡ t → line-made R F rows i (L.Resolve r) ≡ unless-found t (resolution-row R F rows i r (in-set (r .merge)))
     unfolding line-made line-row
-    made-by t e = ap (λ (f : Found). unless-found f (resolution-row (house F) F rows i r (in-set (r .merge)))) e
+    made-by t e = ap (λ (f : Found). unless-found f (resolution-row R F rows i r (in-set (r .merge)))) e
 
     -- a clause that is refused
     pub stopped-line : (j : Joined) (m : Made) → Joins (first-of tests) (table-result lines r) j → (j .refusal ≡ 0 → ⊥) → m .refusal ≡ j .refusal → m .variable ≡ 0
-        → Makes (line-made (house F) F rows i (L.Resolve r)) m
+        → Makes (line-made R F rows i (L.Resolve r)) m
     stopped-line j m J n e v = by (first-of tests) refl J
       where
-        by : (t : Found) → first-of tests ≡ t → Joins t (table-result lines r) j → Makes (line-made (house F) F rows i (L.Resolve r)) m
+        by : (t : Found) → first-of tests ≡ t → Joins t (table-result lines r) j → Makes (line-made R F rows i (L.Resolve r)) m
         by passes t K = absurd (n (K .0))
         by (fails k w) t K = rw (made-by (fails k w) (faults-fail k w t)) (e ∙ K .0, v ∙ sym (K .2), K .1)
 
@@ -164,19 +165,19 @@ module _ (F : Formula) (rows : List Row) (g : Game) (clauses lines lines₀ node
 
     -- maps that are refused
     pub unmapped-line : (o : MapsMade) (m : Made) → first-of tests ≡ passes → Maps-made (first-of maps) entries o → (o .refusal ≡ 0 → ⊥)
-        → m .refusal ≡ o .refusal → m .variable ≡ o .variable → Makes (line-made (house F) F rows i (L.Resolve r)) m
+        → m .refusal ≡ o .refusal → m .variable ≡ o .variable → Makes (line-made R F rows i (L.Resolve r)) m
     unmapped-line o m p M n e v = by (first-of maps) refl M
       where
-        by : (t : Found) → first-of maps ≡ t → Maps-made t entries o → Makes (line-made (house F) F rows i (L.Resolve r)) m
+        by : (t : Found) → first-of maps ≡ t → Maps-made t entries o → Makes (line-made R F rows i (L.Resolve r)) m
         by passes t K = absurd (n (K .0))
         by (fails k w) t K = rw (made-by (fails k w) (faults-maps p ∙ t)) (e ∙ K .0, v ∙ K .1, K .2)
 
     -- the line's row
     pub mapped-line : (o : MapsMade) (m : Made) → first-of tests ≡ passes → Maps-made (first-of maps) entries o → o .refusal ≡ 0
-        → m .refusal ≡ 0 → clause-of (m .clause) ≡ result rows r → m .row ≡ o .row → Makes (line-made (house F) F rows i (L.Resolve r)) m
+        → m .refusal ≡ 0 → clause-of (m .clause) ≡ result rows r → m .row ≡ o .row → Makes (line-made R F rows i (L.Resolve r)) m
     unfolding resolution-row
     mapped-line o m p M z e c w = by (first-of maps) refl M
       where
-        by : (t : Found) → first-of maps ≡ t → Maps-made t entries o → Makes (line-made (house F) F rows i (L.Resolve r)) m
+        by : (t : Found) → first-of maps ≡ t → Maps-made t entries o → Makes (line-made R F rows i (L.Resolve r)) m
         by passes t K = rw (made-by passes (faults-maps p ∙ t)) (e, c, rw w (K .1))
         by (fails k w) t K = absurd (omega (arith, K .0, K .2))

@@ -10,14 +10,14 @@ use lib.Seq.{drop-cons, drop-drop, length-take-le}
 use borrow.Rule.Slice.PartMut.{putMid}
 use Rattle.rules.specs.definitions.Layout.{set-words, line-words, map-words, head-bytes, record-bytes}
 use Rattle.rules.specs.definitions.Limits.{universals-most, lines-most}
-use Rattle.rules.specs.definitions.Formula.{Formula, universals}
+use Rattle.rules.specs.definitions.Formula.{Formula}
 use Rattle.rules.specs.statements.Proper.{Proper}
 use Rattle.rules.specs.definitions.File.{split}
 use Rattle.theory.specs.laws.File.{length-split, split-at}
 use Rattle.rules.specs.statements.Good.{Good}
 use Rattle.theory.specs.laws.Lines.{row-new, good-next, good-words, rows-grown}
 use Rattle.rules.specs.definitions.Maps.{node-word}
-use Rattle.rules.specs.definitions.Lines.{Entry, Row, no-row, row-at, house, next-line}
+use Rattle.rules.specs.definitions.Lines.{Entry, Row, no-row, row-at, next-line, Rules}
 use Rattle.rules.specs.definitions.Lines.{Made as Outcome}
 use Rattle.rules.specs.definitions.Lines.Made.{made, refused}
 use Rattle.rules.specs.definitions.Checking.{lines-from, all-lines}
@@ -62,7 +62,7 @@ table-put w n f d rows lent t t′ W e row i r c k h p q =
 
 -- ---- the rows that stand
 -- each row of good rows has its words
-module _ (F : Formula) (proper : Proper F) (rows : List Row) (good : Good (house F) F rows) where
+module _ (R : Rules) (F : Formula) (proper : Proper F) (rows : List Row) (good : Good R F rows) where
   entries-few : (i : ℕ) → i < length rows → length (getD rows i no-row .entries) ≤ universals-most
   unfolding row-at
   entries-few i h = omega (arith, good (suc i) (omega arith) h .entries, proper .universals)
@@ -73,12 +73,12 @@ module _ (F : Formula) (proper : Proper F) (rows : List Row) (good : Good (house
 
   clause-wide : (i : ℕ) → i < length rows → length (clause-row (getD rows i no-row .clause)) ≡ 2 * set-words
   unfolding row-at
-  clause-wide i h = length-clause-row _ (good-words (house F) F rows (suc i) (good (suc i) (omega arith) h))
+  clause-wide i h = length-clause-row _ (good-words R F rows (suc i) (good (suc i) (omega arith) h))
 
 -- one line more
-module _ (F : Formula) (proper : Proper F) (rows : List Row) (lines lines₀ nodes nodes₀ roots roots₀ : List ℕ) (S : Standing F rows lines lines₀ nodes nodes₀ roots roots₀) (bytes : List ℕ) (row : Row) (made-row : next-line (house F) F rows bytes ≡ made row) (i : ℕ) (at : i ≡ length rows) (room : i < lines-most) where
-  good′ : Good (house F) F (rows ++ (row ∷ []))
-  good′ = good-next (house F) F rows bytes row proper (S .good) made-row
+module _ (R : Rules) (F : Formula) (proper : Proper F) (rows : List Row) (lines lines₀ nodes nodes₀ roots roots₀ : List ℕ) (S : Standing R F rows lines lines₀ nodes nodes₀ roots roots₀) (bytes : List ℕ) (row : Row) (made-row : next-line R F rows bytes ≡ made row) (i : ℕ) (at : i ≡ length rows) (room : i < lines-most) where
+  good′ : Good R F (rows ++ (row ∷ []))
+  good′ = good-next R F rows bytes row proper (S .good) made-row
 
   last-row : getD (rows ++ (row ∷ [])) (length rows) no-row ≡ row
   unfolding row-at
@@ -89,16 +89,16 @@ module _ (F : Formula) (proper : Proper F) (rows : List Row) (lines lines₀ nod
 
   pub standing-more : (m : Made) (lines′ nodes′ roots′ : List ℕ) → clause-of (m .clause) ≡ row .clause → Row-of (row .entries) (m .row)
       → lines′ ≡ with-row (2 * set-words) i (clause-row (clause-of (m .clause))) lines → nodes′ ≡ with-row universals-most i (m .row .nodes) nodes → roots′ ≡ with-row universals-most i (m .row .roots) roots
-      → Standing F (rows ++ (row ∷ [])) lines′ lines₀ nodes′ nodes₀ roots′ roots₀
-  standing-more m lines′ nodes′ roots′ c R el en er = record {
+      → Standing R F (rows ++ (row ∷ [])) lines′ lines₀ nodes′ nodes₀ roots′ roots₀
+  standing-more m lines′ nodes′ roots′ c W el en er = record {
     good = good′;
     few = omega (arith, rows-grown rows row);
-    in-lines = table-put (2 * set-words) line-words (λ (r : Row). clause-row (r .clause)) no-row rows lines₀ lines lines′ (clause-wide F proper rows (S .good)) (S .in-lines) row i (clause-row (clause-of (m .clause))) at
-        (rw last-row at (clause-wide F proper (rows ++ (row ∷ [])) good′ (length rows) last-in)) (line-row-room i room) (ap clause-row c) el;
-    in-nodes = table-put universals-most map-words node-row no-row rows nodes₀ nodes nodes′ (words-wide F proper rows (S .good) (λ (e : Entry). node-word (e .node))) (S .in-nodes) row i (m .row .nodes) at
-        (rw last-row at (words-wide F proper (rows ++ (row ∷ [])) good′ (λ (e : Entry). node-word (e .node)) (length rows) last-in)) (map-row-room i room) (R .nodes) en;
-    in-roots = table-put universals-most map-words root-row no-row rows roots₀ roots roots′ (words-wide F proper rows (S .good) (λ (e : Entry). e .root)) (S .in-roots) row i (m .row .roots) at
-        (rw last-row at (words-wide F proper (rows ++ (row ∷ [])) good′ (λ (e : Entry). e .root) (length rows) last-in)) (map-row-room i room) (R .roots) er;
+    in-lines = table-put (2 * set-words) line-words (λ (r : Row). clause-row (r .clause)) no-row rows lines₀ lines lines′ (clause-wide R F proper rows (S .good)) (S .in-lines) row i (clause-row (clause-of (m .clause))) at
+        (rw last-row at (clause-wide R F proper (rows ++ (row ∷ [])) good′ (length rows) last-in)) (line-row-room i room) (ap clause-row c) el;
+    in-nodes = table-put universals-most map-words node-row no-row rows nodes₀ nodes nodes′ (words-wide R F proper rows (S .good) (λ (e : Entry). node-word (e .node))) (S .in-nodes) row i (m .row .nodes) at
+        (rw last-row at (words-wide R F proper (rows ++ (row ∷ [])) good′ (λ (e : Entry). node-word (e .node)) (length rows) last-in)) (map-row-room i room) (W .nodes) en;
+    in-roots = table-put universals-most map-words root-row no-row rows roots₀ roots roots′ (words-wide R F proper rows (S .good) (λ (e : Entry). e .root)) (S .in-roots) row i (m .row .roots) at
+        (rw last-row at (words-wide R F proper (rows ++ (row ∷ [])) good′ (λ (e : Entry). e .root) (length rows) last-in)) (map-row-room i room) (W .roots) er;
   }
 
 -- ---- the records left
@@ -121,42 +121,42 @@ refused-of (made row) m M n = absurd (n (M .0))
 refused-of (refused k v) m M n = (rw (M .0, M .1), omega (arith, M .0, M .2))
 
 -- the run goes on, stops, or is at its end
-run-on : (F : Formula) (rows : List Row) (r : List ℕ) (rs : List (List ℕ)) (row : Row) → next-line (house F) F rows r ≡ made row
-    → lines-from (house F) F rows (r ∷ rs) ≡ lines-from (house F) F (rows ++ (row ∷ [])) rs
+run-on : (R : Rules) (F : Formula) (rows : List Row) (r : List ℕ) (rs : List (List ℕ)) (row : Row) → next-line R F rows r ≡ made row
+    → lines-from R F rows (r ∷ rs) ≡ lines-from R F (rows ++ (row ∷ [])) rs
 unfolding lines-from
-run-on F rows r rs row e = rw (lines-from, e)
+run-on R F rows r rs row e = rw (lines-from, e)
 
-run-stop : (F : Formula) (rows : List Row) (r : List ℕ) (rs : List (List ℕ)) (n v : ℕ) → next-line (house F) F rows r ≡ refused n v
-    → lines-from (house F) F rows (r ∷ rs) ≡ stopped n (suc (length rows)) v
+run-stop : (R : Rules) (F : Formula) (rows : List Row) (r : List ℕ) (rs : List (List ℕ)) (n v : ℕ) → next-line R F rows r ≡ refused n v
+    → lines-from R F rows (r ∷ rs) ≡ stopped n (suc (length rows)) v
 unfolding lines-from
-run-stop F rows r rs n v e = rw (lines-from, e)
+run-stop R F rows r rs n v e = rw (lines-from, e)
 
 -- no more words than the table has
-few-lines : (F : Formula) (rows : List Row) → Proper F → Good (house F) F rows → length rows ≤ lines-most → length (line-table F rows) ≤ line-words
+few-lines : (R : Rules) (F : Formula) (rows : List Row) → Proper F → Good R F rows → length rows ≤ lines-most → length (line-table F rows) ≤ line-words
 unfolding set-words line-words
-few-lines F rows proper good h = omega (arith, rows-length (2 * set-words) (λ (r : Row). clause-row (r .clause)) no-row rows (clause-wide F proper rows good))
+few-lines R F rows proper good h = omega (arith, rows-length (2 * set-words) (λ (r : Row). clause-row (r .clause)) no-row rows (clause-wide R F proper rows good))
 
-few-words : (F : Formula) (rows : List Row) → Proper F → Good (house F) F rows → length rows ≤ lines-most → (word : Entry → ℕ)
+few-words : (R : Rules) (F : Formula) (rows : List Row) → Proper F → Good R F rows → length rows ≤ lines-most → (word : Entry → ℕ)
     → length (rows-of (λ (r : Row). padded universals-most (map word (r .entries))) rows) ≤ map-words
 unfolding map-words
-few-words F rows proper good h word =
-    omega (arith, rows-length universals-most (λ (r : Row). padded universals-most (map word (r .entries))) no-row rows (words-wide F proper rows good word))
+few-words R F rows proper good h word =
+    omega (arith, rows-length universals-most (λ (r : Row). padded universals-most (map word (r .entries))) no-row rows (words-wide R F proper rows good word))
 
 -- nothing past the words of a table is written
-pub kept-past : (F : Formula) → Proper F → (rows : List Row) (lines lines₀ nodes nodes₀ roots roots₀ : List ℕ) → Standing F rows lines lines₀ nodes nodes₀ roots roots₀
+pub kept-past : (R : Rules) (F : Formula) → Proper F → (rows : List Row) (lines lines₀ nodes nodes₀ roots roots₀ : List ℕ) → Standing R F rows lines lines₀ nodes nodes₀ roots roots₀
     → Kept-past lines₀ nodes₀ roots₀ lines nodes roots
-kept-past F proper rows lines lines₀ nodes nodes₀ roots roots₀ S = record {
-  lines-past = ap (drop line-words) (S .in-lines) ∙ holding-drop line-words (line-table F rows) lines₀ (few-lines F rows proper (S .good) (S .few));
-  nodes-past = ap (drop map-words) (S .in-nodes) ∙ holding-drop map-words (node-table F rows) nodes₀ (few-words F rows proper (S .good) (S .few) (λ (e : Entry). node-word (e .node)));
-  roots-past = ap (drop map-words) (S .in-roots) ∙ holding-drop map-words (root-table F rows) roots₀ (few-words F rows proper (S .good) (S .few) (λ (e : Entry). e .root));
+kept-past R F proper rows lines lines₀ nodes nodes₀ roots roots₀ S = record {
+  lines-past = ap (drop line-words) (S .in-lines) ∙ holding-drop line-words (line-table F rows) lines₀ (few-lines R F rows proper (S .good) (S .few));
+  nodes-past = ap (drop map-words) (S .in-nodes) ∙ holding-drop map-words (node-table F rows) nodes₀ (few-words R F rows proper (S .good) (S .few) (λ (e : Entry). node-word (e .node)));
+  roots-past = ap (drop map-words) (S .in-roots) ∙ holding-drop map-words (root-table F rows) roots₀ (few-words R F rows proper (S .good) (S .few) (λ (e : Entry). e .root));
 }
 
-module _ (F : Formula) (g : Game) (clauses proof : List ℕ) (n : ℕ) (W : Whole F g clauses) (few : n ≤ lines-most) (lines₀ nodes₀ roots₀ : List ℕ) where
+module _ (R : Rules) (F : Formula) (g : Game) (clauses proof : List ℕ) (n : ℕ) (W : Whole R F g clauses) (few : n ≤ lines-most) (lines₀ nodes₀ roots₀ : List ℕ) where
   abbrev recs : List (List ℕ)
   recs = split n (drop head-bytes proof)
 
   -- no line yet
-  pub so-far-none : Blank lines₀ nodes₀ roots₀ → So-far F n recs lines₀ nodes₀ roots₀ lines₀ nodes₀ roots₀ 0
+  pub so-far-none : Blank lines₀ nodes₀ roots₀ → So-far R F n recs lines₀ nodes₀ roots₀ lines₀ nodes₀ roots₀ 0
   unfolding all-lines rows-of
   so-far-none B = record {
     rows = [];
@@ -165,9 +165,9 @@ module _ (F : Formula) (g : Game) (clauses proof : List ℕ) (n : ℕ) (W : Whol
     rest = refl;
   }
 
-  module _ (lines nodes roots : List ℕ) (i : ℕ) (S : So-far F n recs lines₀ nodes₀ roots₀ lines nodes roots i) where
+  module _ (lines nodes roots : List ℕ) (i : ℕ) (S : So-far R F n recs lines₀ nodes₀ roots₀ lines nodes roots i) where
     -- the next line can be made
-    pub ready : i < n → line-words ≤ length lines → map-words ≤ length nodes → map-words ≤ length roots → Ready F (S .rows) g clauses lines lines₀ nodes nodes₀ roots roots₀ (i + 1)
+    pub ready : i < n → line-words ≤ length lines → map-words ≤ length nodes → map-words ≤ length roots → Ready R F (S .rows) g clauses lines lines₀ nodes nodes₀ roots roots₀ (i + 1)
     ready h ll ln lr = record {
       whole = W;
       standing = S .standing;
@@ -178,37 +178,37 @@ module _ (F : Formula) (g : Game) (clauses proof : List ℕ) (n : ℕ) (W : Whol
       long-roots = lr;
     }
 
-    module _ (h : i < n) (bytes : List ℕ) (part : bytes ≡ take record-bytes (drop (record-bytes * i) (drop head-bytes proof))) (m : Made) (M : Makes (next-line (house F) F (S .rows) bytes) m) where
+    module _ (h : i < n) (bytes : List ℕ) (part : bytes ≡ take record-bytes (drop (record-bytes * i) (drop head-bytes proof))) (m : Made) (M : Makes (next-line R F (S .rows) bytes) m) where
       left-from : drop i recs ≡ bytes ∷ drop (suc i) recs
       left-from = records-from n (drop head-bytes proof) i h ∙ ap (λ (r : List ℕ). r ∷ drop (suc i) recs) (sym part)
 
       -- a line that is refused
       pub so-far-stop : (r : Verdict) → (m .refusal ≡ 0 → ⊥) → r .number ≡ m .refusal → r .line ≡ i + 1 → r .variable ≡ m .variable
-          → Ran F (all-lines (house F) F recs) lines₀ nodes₀ roots₀ lines nodes roots r
+          → Ran R F (all-lines R F recs) lines₀ nodes₀ roots₀ lines nodes roots r
       so-far-stop r z p q v =
-          let X = refused-of (next-line (house F) F (S .rows) bytes) m M z in
-          rw (S .rest ∙ ap (lines-from (house F) F (S .rows)) left-from ∙ run-stop F (S .rows) bytes (drop (suc i) recs) (m .refusal) (m .variable) (X .0))
-          (p, omega (arith, q, S .count), v, X .1, kept-past F (W .proper) (S .rows) lines lines₀ nodes nodes₀ roots roots₀ (S .standing))
+          let X = refused-of (next-line R F (S .rows) bytes) m M z in
+          rw (S .rest ∙ ap (lines-from R F (S .rows)) left-from ∙ run-stop R F (S .rows) bytes (drop (suc i) recs) (m .refusal) (m .variable) (X .0))
+          (p, omega (arith, q, S .count), v, X .1, kept-past R F (W .proper) (S .rows) lines lines₀ nodes nodes₀ roots roots₀ (S .standing))
 
       -- a line that is made
       pub so-far-more : (lines′ nodes′ roots′ : List ℕ) → m .refusal ≡ 0
           → lines′ ≡ with-row (2 * set-words) i (clause-row (clause-of (m .clause))) lines → nodes′ ≡ with-row universals-most i (m .row .nodes) nodes → roots′ ≡ with-row universals-most i (m .row .roots) roots
-          → So-far F n recs lines₀ nodes₀ roots₀ lines′ nodes′ roots′ (i + 1)
+          → So-far R F n recs lines₀ nodes₀ roots₀ lines′ nodes′ roots′ (i + 1)
       so-far-more lines′ nodes′ roots′ z el en er =
-          let X = made-of (next-line (house F) F (S .rows) bytes) m M z in
+          let X = made-of (next-line R F (S .rows) bytes) m M z in
           record {
             rows = S .rows ++ (X .0 ∷ []);
             count = omega (arith, S .count, rows-grown (S .rows) (X .0));
-            standing = standing-more F (W .proper) (S .rows) lines lines₀ nodes nodes₀ roots roots₀ (S .standing) bytes (X .0) (X .1) i (S .count) (omega arith) m lines′ nodes′ roots′ (X .2) (X .3) el en er;
-            rest = S .rest ∙ ap (lines-from (house F) F (S .rows)) left-from ∙ run-on F (S .rows) bytes (drop (suc i) recs) (X .0) (X .1) ∙ ap (λ (k : ℕ). lines-from (house F) F (S .rows ++ (X .0 ∷ [])) (drop k recs)) (sym (add-one i));
+            standing = standing-more R F (W .proper) (S .rows) lines lines₀ nodes nodes₀ roots roots₀ (S .standing) bytes (X .0) (X .1) i (S .count) (omega arith) m lines′ nodes′ roots′ (X .2) (X .3) el en er;
+            rest = S .rest ∙ ap (lines-from R F (S .rows)) left-from ∙ run-on R F (S .rows) bytes (drop (suc i) recs) (X .0) (X .1) ∙ ap (λ (k : ℕ). lines-from R F (S .rows ++ (X .0 ∷ [])) (drop k recs)) (sym (add-one i));
           }
 
     -- all lines made
-    pub so-far-all : n ≤ i → (r : Verdict) → r .number ≡ 0 → Ran F (all-lines (house F) F recs) lines₀ nodes₀ roots₀ lines nodes roots r
+    pub so-far-all : n ≤ i → (r : Verdict) → r .number ≡ 0 → Ran R F (all-lines R F recs) lines₀ nodes₀ roots₀ lines nodes roots r
     unfolding lines-from
     so-far-all h r z =
         let e : drop i recs ≡ [] = drop-of-length-le recs {i = i} (omega (arith, length-split n (drop head-bytes proof))) in
-        rw (S .rest ∙ ap (lines-from (house F) F (S .rows)) e) (z, S .standing)
+        rw (S .rest ∙ ap (lines-from R F (S .rows)) e) (z, S .standing)
 
 -- record i has its bytes
 pub record-long : (proof : List ℕ) (n i : ℕ) → head-bytes + record-bytes * n ≤ length proof → i < n → length (take (7 + 8 * i + 8 - (7 + 8 * i)) (drop (7 + 8 * i) proof)) ≡ record-bytes

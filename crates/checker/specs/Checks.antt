@@ -8,8 +8,7 @@ use Rattle.rules.specs.definitions.Limits.{lines-most}
 use Rattle.rules.specs.definitions.Formula.{Formula}
 use Rattle.rules.specs.statements.Proper.{Proper}
 use Rattle.rules.specs.definitions.File.{split}
-use Rattle.rules.specs.definitions.Lines.{house}
-use Rattle.rules.specs.definitions.Checking.{Checked, all-lines, when-passed, refutation}
+use Rattle.rules.specs.definitions.Checking.{Checked, base, rules-of, all-lines, when-passed}
 use Rattle.rules.specs.definitions.Checking.Checked.{rejected, accepted}
 use Rattle.rules.specs.definitions.Tables.{holding, prefix-table, clause-table, line-table, node-table, root-table}
 use Rattle.checker.specs.declared.check.Findings.{Findings}
@@ -36,7 +35,7 @@ pub record Headed (proof : List ℕ) (n : ℕ) : Type 0 where
 
 -- the n records behind the head, checked
 abbrev pub lines-checked : Formula → ℕ → List ℕ → Checked
-lines-checked F n proof = when-passed refutation F (all-lines (house F) F (split n (drop head-bytes proof)))
+lines-checked F n proof = when-passed base F (all-lines (rules-of base F proof) F (split n (drop head-bytes proof)))
 
 -- the refusal's number, place and variable; or the line count, and the rows in the tables
 abbrev pub Checks : Checked → List ℕ → List ℕ → List ℕ → List ℕ → List ℕ → List ℕ → Findings → Type 0

@@ -11,6 +11,8 @@ use Rattle.rules.specs.definitions.Sets.{has, with}
 use Rattle.rules.specs.definitions.Sets.{Set as Variables}
 use Rattle.rules.specs.definitions.Formula.{Bound, Formula, bound, universals, existentials, left-of}
 use Rattle.rules.specs.statements.Proper.{Proper}
+use Rattle.rules.specs.definitions.File.{decoded}
+use Rattle.rules.specs.definitions.Lines.{Rules, strict}
 use Rattle.rules.specs.definitions.Tables.{padded, holding, prefix-table}
 use Rattle.sets.specs.declared.Set.{Set}
 use Rattle.sets.specs.Values.{set-of}
@@ -38,13 +40,16 @@ with-word s w = elim (eqb w 0 || leb universal-mark w) [ true ↦ s | false ↦ 
 abbrev pub left-set : Game → ℕ → Variables
 left-set g j = set-of (getD (g .left) j (record { word = 0 }))
 
--- the game of a formula
-pub record Game-of (F : Formula) (g : Game) : Type 0 where
+-- the game of a formula under rules
+pub record Game-of (R : Rules) (F : Formula) (g : Game) : Type 0 where
+  -- the rules are those that the game is played by
+  pub decodes : R .decode ≡ decoded
+  pub ground : R .ground ≡ strict
   pub count : g .count ≡ length (F .matrix)
   pub universal-count : g .universals ≡ length (universals (F .prefix))
   pub existential-set : set-of (g .existentials) ≡ existentials (F .prefix)
   pub vars : g .vars ≡ padded universals-most (universals (F .prefix))
-  pub left : (j x : ℕ) → j < length (universals (F .prefix)) → has (left-set g j) x ≡ left-of (F .prefix) x (getD (universals (F .prefix)) j 0)
+  pub left : (j x : ℕ) → j < length (universals (F .prefix)) → has (left-set g j) x ≡ R .left x (getD (universals (F .prefix)) j 0)
 
 -- ---- word by word
 -- the first i variables of the prefix Q are bound

@@ -8,7 +8,7 @@ use Rattle.rules.specs.definitions.Limits.{lines-most}
 use Rattle.rules.specs.definitions.Formula.{Formula}
 use Rattle.rules.specs.statements.Proper.{Proper}
 use Rattle.rules.specs.statements.Good.{Good}
-use Rattle.rules.specs.definitions.Lines.{Row, house}
+use Rattle.rules.specs.definitions.Lines.{Row, Rules}
 use Rattle.rules.specs.definitions.Lines.{Made as Outcome}
 use Rattle.rules.specs.definitions.Lines.Made.{made, refused}
 use Rattle.rules.specs.definitions.Tables.{holding, clause-table, line-table, node-table, root-table}
@@ -23,25 +23,25 @@ abbrev pub Makes : Outcome → Made → Type 0
 Makes (made row) m = (m .refusal ≡ 0) × (clause-of (m .clause) ≡ row .clause) × Row-of (row .entries) (m .row)
 Makes (refused n v) m = (m .refusal ≡ n) × (m .variable ≡ v) × (1 ≤ n)
 
--- the formula, its game, and the clause table that holds its clauses
-pub record Whole (F : Formula) (g : Game) (clauses : List ℕ) : Type 0 where
+-- the rules, the formula, its game, and the clause table that holds its clauses
+pub record Whole (R : Rules) (F : Formula) (g : Game) (clauses : List ℕ) : Type 0 where
   pub proper : Proper F
-  pub game : Game-of F g
+  pub game : Game-of R F g
   pub long : clause-words ≤ length clauses
   pub words : clauses ≡ holding clause-words (clause-table F []) clauses
 
 -- the rows so far, and the tables that hold them, each otherwise zero and past its words as the second list has it
-pub record Standing (F : Formula) (rows : List Row) (lines lines₀ nodes nodes₀ roots roots₀ : List ℕ) : Type 0 where
-  pub good : Good (house F) F rows
+pub record Standing (R : Rules) (F : Formula) (rows : List Row) (lines lines₀ nodes nodes₀ roots roots₀ : List ℕ) : Type 0 where
+  pub good : Good R F rows
   pub few : length rows ≤ lines-most
   pub in-lines : lines ≡ holding line-words (line-table F rows) lines₀
   pub in-nodes : nodes ≡ holding map-words (node-table F rows) nodes₀
   pub in-roots : roots ≡ holding map-words (root-table F rows) roots₀
 
 -- line i comes after the rows
-pub record Ready (F : Formula) (rows : List Row) (g : Game) (clauses lines lines₀ nodes nodes₀ roots roots₀ : List ℕ) (i : ℕ) : Type 0 where
-  pub whole : Whole F g clauses
-  pub standing : Standing F rows lines lines₀ nodes nodes₀ roots roots₀
+pub record Ready (R : Rules) (F : Formula) (rows : List Row) (g : Game) (clauses lines lines₀ nodes nodes₀ roots roots₀ : List ℕ) (i : ℕ) : Type 0 where
+  pub whole : Whole R F g clauses
+  pub standing : Standing R F rows lines lines₀ nodes nodes₀ roots roots₀
   pub line : i ≡ suc (length rows)
   pub within : i ≤ lines-most
   pub long-lines : line-words ≤ length lines
@@ -51,4 +51,4 @@ pub record Ready (F : Formula) (rows : List Row) (g : Game) (clauses lines lines
 -- some formula's rows
 abbrev pub Ready-tables : Game → List ℕ → List ℕ → List ℕ → List ℕ → ℕ → Type 0
 Ready-tables g clauses lines nodes roots i =
-    (F : Formula) × (rows : List Row) × (lines₀ : List ℕ) × (nodes₀ : List ℕ) × (roots₀ : List ℕ) × Ready F rows g clauses lines lines₀ nodes nodes₀ roots roots₀ i
+    (R : Rules) × (F : Formula) × (rows : List Row) × (lines₀ : List ℕ) × (nodes₀ : List ℕ) × (roots₀ : List ℕ) × Ready R F rows g clauses lines lines₀ nodes nodes₀ roots roots₀ i

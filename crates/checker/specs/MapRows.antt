@@ -12,12 +12,12 @@ use Rattle.rules.specs.definitions.Refusals.{no-select}
 use Rattle.rules.specs.definitions.Sets.{has}
 use Rattle.rules.specs.definitions.Faults.{Found, first-of}
 use Rattle.rules.specs.definitions.Faults.Found.{passes, fails}
-use Rattle.rules.specs.definitions.Formula.{Formula, bound-by, universals, left-of}
+use Rattle.rules.specs.definitions.Formula.{Formula, bound-by, universals}
 use Rattle.rules.specs.definitions.Formula.Quant.{exists}
 use Rattle.rules.specs.statements.Proper.{Proper}
 use Rattle.rules.specs.statements.Good.{Good}
 use Rattle.rules.specs.definitions.Maps.{node-word}
-use Rattle.rules.specs.definitions.Lines.{Entry, Row, house, defined, kept-root, each, in-set, map-fault, map-faults, map-entry}
+use Rattle.rules.specs.definitions.Lines.{Entry, Row, Rules, strict, defined, kept-root, each, in-set, map-fault, map-faults, map-entry}
 use Rattle.rules.specs.definitions.Lines.{Selected as Kept-root}
 use Rattle.rules.specs.definitions.Tables.{holding, node-table, root-table}
 use Rattle.sets.specs.declared.Set.{Set}
@@ -27,9 +27,10 @@ use Rattle.checker.specs.declared.maps_row.MapsMade.{MapsMade}
 use Rattle.checker.specs.Rows.{Row-of}
 
 -- line i resolves after the rows that the tables hold: its parents come before it, and its pivot is existential
-pub record Resolving (F : Formula) (rows : List Row) (nodes nodes₀ roots roots₀ : List ℕ) (r : Resolution) (i : ℕ) : Type 0 where
+pub record Resolving (R : Rules) (F : Formula) (rows : List Row) (nodes nodes₀ roots roots₀ : List ℕ) (r : Resolution) (i : ℕ) : Type 0 where
   pub proper : Proper F
-  pub good : Good (house F) F rows
+  pub ground : R .ground ≡ strict
+  pub good : Good R F rows
   pub in-nodes : nodes ≡ holding map-words (node-table F rows) nodes₀
   pub in-roots : roots ≡ holding map-words (root-table F rows) roots₀
   pub line : i ≡ suc (length rows)
@@ -39,17 +40,17 @@ pub record Resolving (F : Formula) (rows : List Row) (nodes nodes₀ roots roots
   pub pivot : bound-by exists (F .prefix) (r .pivot) ≡ true
 
 -- of a formula with P, some rows and tables
-abbrev pub Some-resolving : (Formula → Type 0) → List ℕ → List ℕ → Resolution → ℕ → Type 0
-Some-resolving P nodes roots r i = (F : Formula) × (rows : List Row) × (nodes₀ : List ℕ) × (roots₀ : List ℕ) × P F × Resolving F rows nodes nodes₀ roots roots₀ r i
+abbrev pub Some-resolving : (Rules → Formula → Type 0) → List ℕ → List ℕ → Resolution → ℕ → Type 0
+Some-resolving P nodes roots r i = (R : Rules) × (F : Formula) × (rows : List Row) × (nodes₀ : List ℕ) × (roots₀ : List ℕ) × P R F × Resolving R F rows nodes nodes₀ roots roots₀ r i
 
 -- of every formula with P and all rows that the tables may hold, Q
-abbrev pub Each-resolving : (Formula → Type 0) → List ℕ → List ℕ → Resolution → ℕ → (Formula → List Row → Type 0) → Type 0
-Each-resolving P nodes roots r i Q = (F : Formula) (rows : List Row) (nodes₀ roots₀ : List ℕ) → P F → Resolving F rows nodes nodes₀ roots roots₀ r i → Q F rows
+abbrev pub Each-resolving : (Rules → Formula → Type 0) → List ℕ → List ℕ → Resolution → ℕ → (Rules → Formula → List Row → Type 0) → Type 0
+Each-resolving P nodes roots r i Q = (R : Rules) (F : Formula) (rows : List Row) (nodes₀ roots₀ : List ℕ) → P R F → Resolving R F rows nodes nodes₀ roots roots₀ r i → Q R F rows
 
 -- there is a universal at offset j, and the set has what stands left of it
-pub record Left-set (F : Formula) (j : ℕ) (s : Set) : Type 0 where
+pub record Left-set (R : Rules) (F : Formula) (j : ℕ) (s : Set) : Type 0 where
   pub offset : j < length (universals (F .prefix))
-  pub members : (x : ℕ) → has (set-of s) x ≡ left-of (F .prefix) x (getD (universals (F .prefix)) j 0)
+  pub members : (x : ℕ) → has (set-of s) x ≡ R .left x (getD (universals (F .prefix)) j 0)
 
 -- the word of a root table for the universal at offset j, lines counted from 1
 abbrev pub root-word : List ℕ → ℕ → ℕ → ℕ
@@ -65,9 +66,9 @@ abbrev pub Keeps : Kept-root → MapEntry → Type 0
 Keeps s m = Enters (not (defined s)) no-select (record { node = None; root = kept-root s }) m
 
 -- what the universal u at offset j gets
-abbrev pub Gets : Formula → List Row → Resolution → ℕ → ℕ → ℕ → MapEntry → Type 0
-Gets F rows r i j u m =
-    Enters (map-fault (house F) rows r (in-set (r .merge)) j u .when) (map-fault (house F) rows r (in-set (r .merge)) j u .number) (map-entry (house F) rows i r (in-set (r .merge)) j u) m
+abbrev pub Gets : Rules → Formula → List Row → Resolution → ℕ → ℕ → ℕ → MapEntry → Type 0
+Gets R F rows r i j u m =
+    Enters (map-fault R rows r (in-set (r .merge)) j u .when) (map-fault R rows r (in-set (r .merge)) j u .number) (map-entry R rows i r (in-set (r .merge)) j u) m
 
 -- the row of all entries, or the first fault's number and variable
 abbrev pub Maps-made : Found → List Entry → MapsMade → Type 0
@@ -75,5 +76,5 @@ Maps-made passes es m = (m .refusal ≡ 0) × Row-of es (m .row)
 Maps-made (fails n v) es m = (m .refusal ≡ n) × (m .variable ≡ v) × (1 ≤ n)
 
 -- what all universals get
-abbrev pub All-get : Formula → List Row → Resolution → ℕ → MapsMade → Type 0
-All-get F rows r i m = Maps-made (first-of (map-faults (house F) F rows r (in-set (r .merge)))) (each (map-entry (house F) rows i r (in-set (r .merge))) (universals (F .prefix)) 0) m
+abbrev pub All-get : Rules → Formula → List Row → Resolution → ℕ → MapsMade → Type 0
+All-get R F rows r i m = Maps-made (first-of (map-faults R F rows r (in-set (r .merge)))) (each (map-entry R rows i r (in-set (r .merge))) (universals (F .prefix)) 0) m

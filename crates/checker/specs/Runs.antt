@@ -5,7 +5,7 @@ use Prim.Native.Nat.{ℕ, _+_, _*_, _≤_}
 use lib.ListN.{length, take, drop}
 use Rattle.rules.specs.definitions.Layout.{line-words, map-words}
 use Rattle.rules.specs.definitions.Formula.{Formula}
-use Rattle.rules.specs.definitions.Lines.{Row, house}
+use Rattle.rules.specs.definitions.Lines.{Row, Rules}
 use Rattle.rules.specs.definitions.Checking.{Passed, lines-from, all-lines}
 use Rattle.rules.specs.definitions.Checking.Passed.{passed, stopped}
 use Rattle.rules.specs.definitions.Tables.{holding}
@@ -32,14 +32,14 @@ pub record Kept-past (lines nodes roots lines′ nodes′ roots′ : List ℕ) :
   pub roots-past : drop map-words roots′ ≡ drop map-words roots
 
 -- all rows stand in the tables; or the refusal's number, line and variable
-abbrev pub Ran : Formula → Passed → List ℕ → List ℕ → List ℕ → List ℕ → List ℕ → List ℕ → Verdict → Type 0
-Ran F (passed rows) lines nodes roots lines′ nodes′ roots′ r = (r .number ≡ 0) × Standing F rows lines′ lines nodes′ nodes roots′ roots
-Ran F (stopped n i v) lines nodes roots lines′ nodes′ roots′ r =
+abbrev pub Ran : Rules → Formula → Passed → List ℕ → List ℕ → List ℕ → List ℕ → List ℕ → List ℕ → Verdict → Type 0
+Ran R F (passed rows) lines nodes roots lines′ nodes′ roots′ r = (r .number ≡ 0) × Standing R F rows lines′ lines nodes′ nodes roots′ roots
+Ran R F (stopped n i v) lines nodes roots lines′ nodes′ roots′ r =
     (r .number ≡ n) × (r .line ≡ i) × (r .variable ≡ v) × (1 ≤ n) × Kept-past lines nodes roots lines′ nodes′ roots′
 
 -- after i lines: the rows so far stand, and the run from the start is the run of the records left
-pub record So-far (F : Formula) (n : ℕ) (records : List (List ℕ)) (lines nodes roots lines′ nodes′ roots′ : List ℕ) (i : ℕ) : Type 0 where
+pub record So-far (R : Rules) (F : Formula) (n : ℕ) (records : List (List ℕ)) (lines nodes roots lines′ nodes′ roots′ : List ℕ) (i : ℕ) : Type 0 where
   pub rows : List Row
   pub count : i ≡ length rows
-  pub standing : Standing F rows lines′ lines nodes′ nodes roots′ roots
-  pub rest : all-lines (house F) F records ≡ lines-from (house F) F rows (drop i records)
+  pub standing : Standing R F rows lines′ lines nodes′ nodes roots′ roots
+  pub rest : all-lines R F records ≡ lines-from R F rows (drop i records)

@@ -1,7 +1,6 @@
 -- What the select of two roots gives, by the definitions.
 use Rattle.rules.specs.definitions.Maps.{Column}
-use Rattle.rules.specs.definitions.Comparing.{isomorphic}
-use Rattle.rules.specs.definitions.Lines.{select}
+use Rattle.rules.specs.definitions.Lines.{strict, select}
 use Rattle.rules.specs.definitions.Lines.{Selected as Kept-root}
 use Rattle.rules.specs.definitions.Lines.Selected.{kept, undefined}
 use Rattle.checker.specs.declared.select.Selected.{Selected}
@@ -14,5 +13,5 @@ answered (Kept r) = kept r
 answered Undefined = undefined
 
 -- 01's select of two roots of a column
-abbrev pub house-select : Column → ℕ → ℕ → Kept-root
-house-select = select (λ T r t. isomorphic T r T t)
+abbrev pub strict-select : Column → ℕ → ℕ → Kept-root
+strict-select = select strict

@@ -13,7 +13,7 @@ ghost use Rattle.rules.specs.definitions.Limits.{universals-most};
 ghost use mathlib.Core.List.{List};
 ghost use Rattle.rules.specs.declared.Line.the-variants as L;
 ghost use Rattle.rules.specs.definitions.Formula.{Formula};
-ghost use Rattle.rules.specs.definitions.Lines.{Row, house, falsifying, leaf-entry, each, line-made};
+ghost use Rattle.rules.specs.definitions.Lines.{Row, falsifying, leaf-entry, each, line-made, Rules};
 ghost use Rattle.sets.specs.Values.{clause-of};
 ghost use Rattle.checker.specs.Rows.{players, Row-of};
 ghost use Rattle.checker.specs.Makes.{Makes, Whole};
@@ -76,8 +76,8 @@ fn leaf_row(universals: u32, vars: [u32; ROW_WORDS], clause: Clause, i: u32) -> 
 
 // The axiom with clause number c at line i.
 pub fn axiom_line(g: Game, clauses: &[u64], c: u32, i: u32) -> Made
-    requires { ⌜ ((F : Formula) × Whole F g (now clauses)) ⌝ }
-    ensures { λ r. ⌜ ((F : Formula) (rows : List Row) → Whole F g (now (clauses .entry)) → Makes (line-made (house F) F rows i (L.Axiom c)) r) ⌝ }
+    requires { ⌜ ((R : Rules) × (F : Formula) × Whole R F g (now clauses)) ⌝ }
+    ensures { λ r. ⌜ ((R : Rules) (F : Formula) (rows : List Row) → Whole R F g (now (clauses .entry)) → Makes (line-made R F rows i (L.Axiom c)) r) ⌝ }
 {
     if c < 1 {
         return refuse(NO_CLAUSE, 0);

@@ -6,9 +6,7 @@ use proof::Head;
 use rules::limits::NOT_EMPTY;
 ghost use mathlib.Core.Path.{_≡_};
 ghost use Rattle.rules.specs.definitions.Formula.{Formula};
-ghost use Rattle.rules.specs.definitions.File.{merge-proof};
-ghost use Rattle.rules.specs.definitions.Lines.{house};
-ghost use Rattle.rules.specs.definitions.Checking.{refutation, proof-checked};
+ghost use Rattle.rules.specs.definitions.Checking.{base, proof-checked};
 ghost use Rattle.checker.specs.Runs.{Blank};
 ghost use Rattle.checker.specs.Checks.{Headed, In-tables, Filled-tables, lines-checked, Checks};
 
@@ -83,7 +81,7 @@ pub fn check_proof(
     roots: &mut [u32],
 ) -> Findings
     requires { ⌜ Blank (now lines) (now nodes) (now roots) × Filled-tables (now prefix) count (now clauses) ⌝ }
-    ensures { λ r. ⌜ ((F : Formula) → In-tables F (now (prefix .entry)) count (now (clauses .entry)) → Checks (proof-checked house refutation merge-proof F (now (proof .entry))) (now (lines .entry)) (now (nodes .entry)) (now (roots .entry)) (now (lines .exit)) (now (nodes .exit)) (now (roots .exit)) r) ⌝ }
+    ensures { λ r. ⌜ ((F : Formula) → In-tables F (now (prefix .entry)) count (now (clauses .entry)) → Checks (proof-checked base F (now (proof .entry))) (now (lines .entry)) (now (nodes .entry)) (now (roots .entry)) (now (lines .exit)) (now (nodes .exit)) (now (roots .exit)) r) ⌝ }
 {
     let h = proof::read_head(proof);
     match h {

@@ -4,11 +4,13 @@ use rules::limits::PREFIX_WORDS;
 use rules::limits::ROW_WORDS;
 use rules::limits::UNIVERSAL_MARK;
 use sets::Set;
+ghost use mathlib.Core.List.{List};
 ghost use mathlib.Core.Path.{_≡_};
-ghost use Prim.Native.Nat.{_≤_, _<_};
+ghost use Prim.Native.Nat.{ℕ, _≤_, _<_};
 ghost use lib.ListN.{length};
 ghost use Rattle.rules.specs.definitions.Layout.{universal-mark, prefix-words};
 ghost use Rattle.rules.specs.definitions.Limits.{universals-most};
+ghost use Rattle.rules.specs.definitions.Checking.{base, rules-of};
 ghost use Rattle.rules.specs.definitions.Formula.{Formula, existentials};
 ghost use Rattle.sets.specs.Values.{set-of};
 ghost use Rattle.checker.specs.Game.{
@@ -112,7 +114,7 @@ impl Game {
 // The game of the formula whose prefix the table holds.
 pub fn game_of(prefix: &[u32], count: u32) -> Game
     requires { ⌜ (prefix-words ≤ length (now prefix)) × Readable (now prefix) ⌝ }
-    ensures { λ r. ⌜ ((F : Formula) → Prefixed F (now (prefix .entry)) → count ≡ length (F .matrix) → Game-of F r) ⌝ }
+    ensures { λ r. ⌜ ((F : Formula) (s : List ℕ) → Prefixed F (now (prefix .entry)) → count ≡ length (F .matrix) → Game-of (rules-of base F s) F r) ⌝ }
 {
     let mut g = Game::begin(count, find_existentials(prefix));
     let mut i: usize = 0;

@@ -14,7 +14,7 @@ ghost use lib.ListN.{length};
 ghost use Rattle.rules.specs.declared.Line.the-variants as L;
 ghost use Rattle.rules.specs.definitions.Layout.{record-bytes};
 ghost use Rattle.rules.specs.definitions.Formula.{Formula};
-ghost use Rattle.rules.specs.definitions.Lines.{Row, house, line-made, next-line};
+ghost use Rattle.rules.specs.definitions.Lines.{Row, line-made, next-line, Rules};
 ghost use Rattle.checker.specs.Makes.{Makes, Ready, Ready-tables};
 
 // The resolution r at line i.
@@ -28,7 +28,7 @@ fn resolution_line(
     i: u32,
 ) -> Made
     requires { ⌜ Ready-tables g (now clauses) (now lines) (now nodes) (now roots) i ⌝ }
-    ensures { λ m. ⌜ ((F : Formula) (rows : List Row) (lines₀ nodes₀ roots₀ : List ℕ) → Ready F rows g (now (clauses .entry)) (now (lines .entry)) lines₀ (now (nodes .entry)) nodes₀ (now (roots .entry)) roots₀ i → Makes (line-made (house F) F rows i (L.Resolve r)) m) ⌝ }
+    ensures { λ m. ⌜ ((R : Rules) (F : Formula) (rows : List Row) (lines₀ nodes₀ roots₀ : List ℕ) → Ready R F rows g (now (clauses .entry)) (now (lines .entry)) lines₀ (now (nodes .entry)) nodes₀ (now (roots .entry)) roots₀ i → Makes (line-made R F rows i (L.Resolve r)) m) ⌝ }
 {
     let existentials = g.existentials;
     let j = resolutions::join_parents(existentials, g.universals, lines, r, i);
@@ -63,7 +63,7 @@ pub fn make_line(
     i: u32,
 ) -> Made
     requires { ⌜ (length (now rec) ≡ record-bytes) × Ready-tables g (now clauses) (now lines) (now nodes) (now roots) i ⌝ }
-    ensures { λ m. ⌜ ((F : Formula) (rows : List Row) (lines₀ nodes₀ roots₀ : List ℕ) → Ready F rows g (now (clauses .entry)) (now (lines .entry)) lines₀ (now (nodes .entry)) nodes₀ (now (roots .entry)) roots₀ i → Makes (next-line (house F) F rows (now (rec .entry))) m) ⌝ }
+    ensures { λ m. ⌜ ((R : Rules) (F : Formula) (rows : List Row) (lines₀ nodes₀ roots₀ : List ℕ) → Ready R F rows g (now (clauses .entry)) (now (lines .entry)) lines₀ (now (nodes .entry)) nodes₀ (now (roots .entry)) roots₀ i → Makes (next-line R F rows (now (rec .entry))) m) ⌝ }
 {
     let d = proof::decode(rec);
     match d {

@@ -24,7 +24,7 @@ ghost use Rattle.rules.specs.definitions.Services.{table-column};
 ghost use Rattle.sets.specs.Values.{set-of};
 ghost use Rattle.maps.specs.Playing.{Place};
 ghost use Rattle.checker.specs.Game.{Game-of};
-ghost use Rattle.checker.specs.Selects.{house-select};
+ghost use Rattle.checker.specs.Selects.{strict-select};
 ghost use Rattle.checker.specs.MapRows.{
   Some-resolving,
   Each-resolving,
@@ -90,7 +90,7 @@ fn merge_entry(left: Set, x: u32, a: u32, b: u32, i: u32) -> MapEntry
 // Otherwise: no node, and the root that select keeps; 31 where it keeps none.
 fn select_entry(nodes: &[u32], j: usize, a: u32, b: u32) -> MapEntry
     requires { ⌜ Place (now nodes) j a × Place (now nodes) j b × Sound (table-column (now nodes) (j + 1)) a ⌝ }
-    ensures { λ r. ⌜ Keeps (house-select (table-column (now (nodes .entry)) (j + 1)) a b) r ⌝ }
+    ensures { λ r. ⌜ Keeps (strict-select (table-column (now (nodes .entry)) (j + 1)) a b) r ⌝ }
 {
     let s = select::select_root(nodes, j, a, b);
     match s {
@@ -109,8 +109,8 @@ fn select_entry(nodes: &[u32], j: usize, a: u32, b: u32) -> MapEntry
 
 // What the universal at offset j gets, from the set of what is left of it.
 fn map_entry(left: Set, nodes: &[u32], roots: &[u32], r: Resolution, i: u32, j: usize) -> MapEntry
-    requires { ⌜ Some-resolving (λ F. Left-set F j left) (now nodes) (now roots) r i ⌝ }
-    ensures { λ m. ⌜ Each-resolving (λ F. Left-set F j left) (now (nodes .entry)) (now (roots .entry)) r i (λ F rows. Gets F rows r i j (getD (universals (F .prefix)) j 0) m) ⌝ }
+    requires { ⌜ Some-resolving (λ R F. Left-set R F j left) (now nodes) (now roots) r i ⌝ }
+    ensures { λ m. ⌜ Each-resolving (λ R F. Left-set R F j left) (now (nodes .entry)) (now (roots .entry)) r i (λ R F rows. Gets R F rows r i j (getD (universals (F .prefix)) j 0) m) ⌝ }
 {
     let a = root_of(roots, j, r.a as u32);
     let b = root_of(roots, j, r.b as u32);
@@ -123,8 +123,8 @@ fn map_entry(left: Set, nodes: &[u32], roots: &[u32], r: Resolution, i: u32, j: 
 // The maps of the resolution at line i: the row of nodes and roots, or the first 30 or 31 with its
 // variable.
 pub fn resolution_maps(g: Game, nodes: &[u32], roots: &[u32], r: Resolution, i: u32) -> MapsMade
-    requires { ⌜ Some-resolving (λ F. Game-of F g) (now nodes) (now roots) r i ⌝ }
-    ensures { λ m. ⌜ Each-resolving (λ F. Game-of F g) (now (nodes .entry)) (now (roots .entry)) r i (λ F rows. All-get F rows r i m) ⌝ }
+    requires { ⌜ Some-resolving (λ R F. Game-of R F g) (now nodes) (now roots) r i ⌝ }
+    ensures { λ m. ⌜ Each-resolving (λ R F. Game-of R F g) (now (nodes .entry)) (now (roots .entry)) r i (λ R F rows. All-get R F rows r i m) ⌝ }
 {
     let vars = g.vars;
     let left = g.left;

@@ -14,7 +14,7 @@ ghost use Rattle.rules.specs.definitions.Layout.{set-words, line-words, map-wor
 ghost use Rattle.rules.specs.definitions.Limits.{universals-most, lines-most};
 ghost use Rattle.rules.specs.definitions.Formula.{Formula};
 ghost use Rattle.rules.specs.definitions.File.{split};
-ghost use Rattle.rules.specs.definitions.Lines.{house};
+ghost use Rattle.rules.specs.definitions.Lines.{Rules};
 ghost use Rattle.rules.specs.definitions.Checking.{all-lines};
 ghost use Rattle.rules.specs.definitions.Tables.{clause-row};
 ghost use Rattle.sets.specs.Values.{clause-of};
@@ -59,8 +59,8 @@ pub fn run(
     nodes: &mut [u32],
     roots: &mut [u32],
 ) -> Verdict
-    requires { ⌜ (n ≤ lines-most) × (head-bytes + record-bytes * n ≤ length (now proof)) × Blank (now lines) (now nodes) (now roots) × ((F : Formula) × Whole F g (now clauses)) ⌝ }
-    ensures { λ r. ⌜ ((F : Formula) → Whole F g (now (clauses .entry)) → Ran F (all-lines (house F) F (split n (drop head-bytes (now (proof .entry))))) (now (lines .entry)) (now (nodes .entry)) (now (roots .entry)) (now (lines .exit)) (now (nodes .exit)) (now (roots .exit)) r) ⌝ }
+    requires { ⌜ (n ≤ lines-most) × (head-bytes + record-bytes * n ≤ length (now proof)) × Blank (now lines) (now nodes) (now roots) × ((R : Rules) × (F : Formula) × Whole R F g (now clauses)) ⌝ }
+    ensures { λ r. ⌜ ((R : Rules) (F : Formula) → Whole R F g (now (clauses .entry)) → Ran R F (all-lines R F (split n (drop head-bytes (now (proof .entry))))) (now (lines .entry)) (now (nodes .entry)) (now (roots .entry)) (now (lines .exit)) (now (nodes .exit)) (now (roots .exit)) r) ⌝ }
 {
     let mut i: usize = 0;
     while i < n {

@@ -6,7 +6,7 @@ ghost use Rattle.rules.specs.definitions.Maps.{star?};
 ghost use Rattle.rules.specs.statements.Sound.{Sound};
 ghost use Rattle.rules.specs.definitions.Services.{table-column};
 ghost use Rattle.maps.specs.Playing.{Place};
-ghost use Rattle.checker.specs.Selects.{answered, house-select};
+ghost use Rattle.checker.specs.Selects.{answered, strict-select};
 
 // The root that is kept, or that select is not defined.
 pub enum Selected {
@@ -27,7 +27,7 @@ fn star_at(nodes: &[u32], column: usize, at: u32) -> bool
 // to itself, and is not walked.
 pub fn select_root(nodes: &[u32], column: usize, a: u32, b: u32) -> Selected
     requires { ⌜ Place (now nodes) column a × Place (now nodes) column b × Sound (table-column (now nodes) (column + 1)) a ⌝ }
-    ensures { λ r. ⌜ answered r ≡ house-select (table-column (now (nodes .entry)) (column + 1)) a b ⌝ }
+    ensures { λ r. ⌜ answered r ≡ strict-select (table-column (now (nodes .entry)) (column + 1)) a b ⌝ }
 {
     if star_at(nodes, column, a) {
         return Selected::Kept(b);

@@ -8,7 +8,7 @@ use native.Mathlib.Omega.{arith}
 use lib.ListN.{length, getD, length-map}
 use Rattle.rules.specs.declared.Reply.{Reply}
 use Rattle.rules.specs.definitions.Layout.{prefix-words, clause-words, line-words, map-words, set-words}
-use Rattle.rules.specs.definitions.Formula.{Formula, universals, no-literal}
+use Rattle.rules.specs.definitions.Formula.{Formula, no-literal}
 use Rattle.theory.specs.laws.Formula.{proper-length, Worded}
 use Rattle.rules.specs.definitions.Faults.{Found}
 use Rattle.rules.specs.definitions.Faults.Found.{passes, fails}
@@ -17,8 +17,8 @@ use Rattle.rules.specs.definitions.Reading.{Reading, read}
 use Rattle.rules.specs.definitions.Reading.Reading.{unread, formula}
 use Rattle.theory.specs.laws.Reading.{read-proper}
 use Rattle.theory.specs.laws.Listed.{text-listed}
-use Rattle.rules.specs.definitions.Lines.{Row, house}
-use Rattle.rules.specs.definitions.Checking.{Passed, all-lines, last-empty, Checked, refutation, when-passed, proof-lines, proof-checked, checked-by, checked}
+use Rattle.rules.specs.definitions.Lines.{Row}
+use Rattle.rules.specs.definitions.Checking.{Passed, last-empty, Checked, base, lines-of, when-passed, proof-checked, checked-by, checked}
 use Rattle.rules.specs.definitions.Checking.Passed.{passed, stopped}
 use Rattle.rules.specs.definitions.Checking.Checked.{rejected, accepted}
 use Rattle.rules.specs.definitions.Tables.{bound-word, clause-row, holding, prefix-table, clause-table, prefix-after, clauses-after}
@@ -47,22 +47,22 @@ same-last : (F : Formula) (rows : List Row) (b : Bool) → Same F (elim b [ true
 same-last F rows true = refl
 same-last F rows false = tt
 
-same-passed : (F : Formula) (p : Passed) → Same F (when-passed refutation F p)
+same-passed : (F : Formula) (p : Passed) → Same F (when-passed base F p)
 same-passed F (passed rows) = same-last F rows (last-empty rows)
 same-passed F (stopped n i v) = tt
 
-same-checked : (F : Formula) (proof : List ℕ) → Same F (proof-checked house refutation merge-proof F proof)
-same-checked F proof = by (head-fault merge-proof (length (universals (F .prefix))) proof)
+same-checked : (F : Formula) (proof : List ℕ) → Same F (proof-checked base F proof)
+same-checked F proof = by (head-fault merge-proof F proof)
   where
-    by : (f : Found) → Same F (elim f [ passes ↦ proof-lines house refutation merge-proof F proof | fails n v ↦ rejected n 0 v ])
-    by passes = same-passed F (all-lines (house F) F _)
+    by : (f : Found) → Same F (elim f [ passes ↦ when-passed base F (lines-of base F proof) | fails n v ↦ rejected n 0 v ])
+    by passes = same-passed F (lines-of base F proof)
     by (fails n v) = tt
 
 module _ (F : Formula) (proof : List ℕ) (T : Lent) (counts : Reply) (R : In-tables F (T .prefix) (counts .clauses) (T .clauses)) (said : counts ≡ success F 0) (l n t : List ℕ) (f : Findings)
-    (J : Checks (proof-checked house refutation merge-proof F proof) (T .lines) (T .nodes) (T .roots) l n t f) where
+    (J : Checks (proof-checked base F proof) (T .lines) (T .nodes) (T .roots) l n t f) where
   -- accepted: the tables hold the rows
-  pub proof-accepted : (r : Reply) → f .number ≡ 0 → r ≡ with-lines counts (f .lines) → Answers (check-answer (proof-checked house refutation merge-proof F proof)) T r (T .prefix) (T .clauses) l n t
-  proof-accepted r z g = by (proof-checked house refutation merge-proof F proof) (same-checked F proof) J
+  pub proof-accepted : (r : Reply) → f .number ≡ 0 → r ≡ with-lines counts (f .lines) → Answers (check-answer (proof-checked base F proof)) T r (T .prefix) (T .clauses) l n t
+  proof-accepted r z g = by (proof-checked base F proof) (same-checked F proof) J
     where
       by : (C : Checked) → Same F C → Checks C (T .lines) (T .nodes) (T .roots) l n t f → Answers (check-answer C) T r (T .prefix) (T .clauses) l n t
       by (accepted G rows) s j =
@@ -81,8 +81,8 @@ module _ (F : Formula) (proof : List ℕ) (T : Lent) (counts : Reply) (R : In-ta
   pub proof-rejected : (r : Reply) (p′ c′ l′ n′ t′ : List ℕ) → f .number ≢ 0 → r ≡ refusal (f .number) (f .place) (f .variable)
       → p′ ≡ holding prefix-words [] (T .prefix) → c′ ≡ holding clause-words [] (T .clauses)
       → l′ ≡ holding line-words [] l → n′ ≡ holding map-words [] n → t′ ≡ holding map-words [] t
-      → Answers (check-answer (proof-checked house refutation merge-proof F proof)) T r p′ c′ l′ n′ t′
-  proof-rejected r p′ c′ l′ n′ t′ z g hp hc hl hn ht = by (proof-checked house refutation merge-proof F proof) J
+      → Answers (check-answer (proof-checked base F proof)) T r p′ c′ l′ n′ t′
+  proof-rejected r p′ c′ l′ n′ t′ z g hp hc hl hn ht = by (proof-checked base F proof) J
     where
       by : (C : Checked) → Checks C (T .lines) (T .nodes) (T .roots) l n t f → Answers (check-answer C) T r p′ c′ l′ n′ t′
       by (accepted G rows) j = absurd (z (ap (λ (x : Findings). x .number) (j .0)))
@@ -119,7 +119,7 @@ module _ (text proof : List ℕ) (T : Lent) (long : Long T) (o : Outcome) (count
   text-refused z = by (read text) refl counts-are (L .prefix-left) (L .clauses-left)
     where
       by : (R : Reading) → read text ≡ R → counts ≡ read-answer R .reply → p ≡ prefix-after (read-answer R .leaves) (T .prefix) → c ≡ clauses-after (read-answer R .leaves) (T .clauses)
-          → Answers (check-answer (elim R [ unread k at ↦ rejected k at 0 | formula F ↦ proof-checked house refutation merge-proof F proof ])) T counts p c l n t
+          → Answers (check-answer (elim R [ unread k at ↦ rejected k at 0 | formula F ↦ proof-checked base F proof ])) T counts p c l n t
       by (unread k at) e f hp hc = record { reply = f; prefix-left = hp; clauses-left = hc; lines-left = hl; nodes-left = hn; roots-left = ht }
       by (formula F) e f hp hc = absurd (z (ap (λ (q : Reply). q .number) f))
 
@@ -167,16 +167,16 @@ module _ (text proof : List ℕ) (T : Lent) (long : Long T) (o : Outcome) (count
 
     -- the proof's answer is the text's with the proof
     pub text-and-proof : (r : Reply) (p′ c′ l′ n′ t′ : List ℕ)
-        → Answers (check-answer (proof-checked house refutation merge-proof F proof)) (record { prefix = p; clauses = c; lines = l; nodes = n; roots = t }) r p′ c′ l′ n′ t′
+        → Answers (check-answer (proof-checked base F proof)) (record { prefix = p; clauses = c; lines = l; nodes = n; roots = t }) r p′ c′ l′ n′ t′
         → Answers (check-answer (checked text proof)) T r p′ c′ l′ n′ t′
     unfolding checked-by
-    text-and-proof r p′ c′ l′ n′ t′ A = subst (λ (C : Checked). Answers (check-answer C) T r p′ c′ l′ n′ t′) same (by (proof-checked house refutation merge-proof F proof) A)
+    text-and-proof r p′ c′ l′ n′ t′ A = subst (λ (C : Checked). Answers (check-answer C) T r p′ c′ l′ n′ t′) same (by (proof-checked base F proof) A)
       where
-        same : proof-checked house refutation merge-proof F proof ≡ checked text proof
+        same : proof-checked base F proof ≡ checked text proof
         same = sym (ap (λ (R : Reading). staged R) e)
           where
             staged : Reading → Checked
-            staged R = elim R [ unread k at ↦ rejected k at 0 | formula G ↦ proof-checked house refutation merge-proof G proof ]
+            staged R = elim R [ unread k at ↦ rejected k at 0 | formula G ↦ proof-checked base G proof ]
 
         by : (C : Checked) → Answers (check-answer C) (record { prefix = p; clauses = c; lines = l; nodes = n; roots = t }) r p′ c′ l′ n′ t′ → Answers (check-answer C) T r p′ c′ l′ n′ t′
         by (accepted G rows) B = record {

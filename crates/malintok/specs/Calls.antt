@@ -7,10 +7,8 @@ use Rattle.rules.specs.declared.Reply.{Reply}
 use Rattle.rules.specs.declared.Played.{Played}
 use Rattle.rules.specs.definitions.Tables.{prefix-after, clauses-after, lines-after, nodes-after, roots-after}
 use Rattle.rules.specs.definitions.Layout.{prefix-words, clause-words, line-words, map-words}
-use Rattle.rules.specs.definitions.File.{merge-proof}
 use Rattle.rules.specs.definitions.Formula.{Formula}
-use Rattle.rules.specs.definitions.Lines.{house}
-use Rattle.rules.specs.definitions.Checking.{refutation, proof-checked, checked}
+use Rattle.rules.specs.definitions.Checking.{base, proof-checked, checked}
 use Rattle.rules.specs.definitions.Services.{Lent, Answer, success, reading, check-answer, checking, playing}
 
 -- reading the text, with these tables lent, gives this reply and leaves these tables
@@ -59,7 +57,7 @@ with-lines r n = record {
 
 -- the proof after its formula F was read, whose counts stand in a reply
 abbrev pub Proof-in : Formula → List ℕ → Lent → Reply → Reply → List ℕ → List ℕ → List ℕ → List ℕ → List ℕ → Type 0
-Proof-in F proof T counts r p c l n t = counts ≡ success F 0 → Answers (check-answer (proof-checked house refutation merge-proof F proof)) T r p c l n t
+Proof-in F proof T counts r p c l n t = counts ≡ success F 0 → Answers (check-answer (proof-checked base F proof)) T r p c l n t
 
 -- the text with the proof
 abbrev pub Checked-in : List ℕ → List ℕ → Lent → Reply → List ℕ → List ℕ → List ℕ → List ℕ → List ℕ → Type 0

@@ -16,20 +16,20 @@ use Rattle.rules.specs.definitions.Formula.{Formula, False, bound-by, universal
 use Rattle.rules.specs.definitions.Formula.Quant.{exists}
 use Rattle.rules.specs.definitions.Reading.{read}
 use Rattle.rules.specs.definitions.Reading.Reading.{formula}
-use Rattle.rules.specs.definitions.File.{announced}
+use Rattle.rules.specs.definitions.File.{merge-proof, announced}
 use Rattle.rules.specs.definitions.Maps.{plays, value-word}
-use Rattle.rules.specs.definitions.Lines.{Row, no-row, house, column, root-at}
+use Rattle.rules.specs.definitions.Lines.{Row, no-row, strict, column, root-at}
 use Rattle.rules.specs.definitions.Tables.{rows-of, node-row, root-row, holding, nodes-after, roots-after}
 use Rattle.rules.specs.definitions.Services.{Lent, Answer, playing, short}
 use Rattle.theory.specs.laws.Lines.{neither}
 use Rattle.theory.specs.laws.Tables.{rows-length, holding-length}
 use Rattle.theory.specs.laws.Playing.{nodes-wide, table-root-rows, table-plays}
 use Rattle.rules.specs.statements.Countermodel.{Countermodel, last-root}
-use Rattle.theory.specs.theorems.Countermodel.{accepted-good, accepted-lines, accepted-wins, accepted-false}
-use Rattle.rules.specs.definitions.Paper.{Refutation}
-use Rattle.rules.specs.definitions.Named.{Left-in}
+use Rattle.theory.specs.theorems.Countermodel.{strict-alike, accepted-good, accepted-lines, accepted-wins, accepted-false}
+use Rattle.rules.specs.definitions.Paper.{merge-resolution, Refutation}
+use Rattle.rules.specs.definitions.Checking.{base, rules-of}
 use Rattle.rules.specs.statements.Held.{paper-lines}
-use Rattle.theory.specs.theorems.Exact.{published}
+use Rattle.theory.specs.theorems.Exact.{base-decides, published}
 use Rattle.rules.specs.statements.Answered.{Answered}
 use Rattle.theory.specs.theorems.Promise.{answered-zero}
 use Rattle.malintok.specs.Calls.{Check-call, Play-call}
@@ -53,12 +53,12 @@ module _ (text proof : List ℕ) (T : Lent) (r : Reply) (p c l n t : List ℕ) (
   -- demand 3, last sentence: the text reads to a formula that is false by the ordinary reading of its prefix
   pub formula-false : (read text ≡ formula the-formula) × False the-formula
   unfolding the-formula
-  formula-false = accepted-false text proof (answered .formula-is) (answered .rows) (answered .accepts)
+  formula-false = accepted-false strict strict-alike text proof (answered .formula-is) (answered .rows) (answered .accepts)
 
   -- demand 2: its lines are a refutation by the published definition
-  pub refutation : Refutation (Left-in the-formula) the-formula (paper-lines the-formula the-rows) (announced proof)
+  pub refutation : Refutation (merge-resolution the-formula) the-formula (paper-lines the-formula the-rows) (announced proof)
   unfolding the-formula the-rows
-  refutation = published text proof (answered .formula-is) (answered .rows) (answered .accepts)
+  refutation = published strict merge-proof text proof (answered .formula-is) (merge-resolution (answered .formula-is)) (base-decides (answered .formula-is) proof) (answered .rows) (answered .accepts)
 
   -- the reply's line count is the number of lines
   pub line-count : r .lines ≡ length the-rows
@@ -68,10 +68,10 @@ module _ (text proof : List ℕ) (T : Lent) (r : Reply) (p c l n t : List ℕ) (
   -- demand 3: the last maps are a countermodel over the prefix's order
   pub countermodel : Countermodel (left-of (the-formula .prefix)) the-formula the-rows
   unfolding the-formula the-rows
-  countermodel = accepted-wins text proof (answered .formula-is) (answered .rows) (answered .accepts) .1
+  countermodel = accepted-wins strict strict-alike text proof (answered .formula-is) (answered .rows) merge-proof (answered .accepts) .1
 
   few : (1 ≤ length (answered .rows)) × (length (answered .rows) ≤ 1024)
-  few = accepted-lines text proof (answered .formula-is) (answered .rows) (answered .accepts)
+  few = accepted-lines base text proof (answered .formula-is) (answered .rows) (answered .accepts)
 
   nodes-held : n ≡ holding map-words (rows-of node-row (answered .rows)) (T .nodes)
   nodes-held = call .nodes-left ∙ ap (λ (a : Answer). nodes-after (a .leaves) (T .nodes)) (answered .answer)
@@ -89,8 +89,8 @@ module _ (text proof : List ℕ) (T : Lent) (r : Reply) (p c l n t : List ℕ) (
   rows-fit : length (rows-of node-row (answered .rows)) ≤ map-words
   unfolding map-words
   rows-fit =
-      let P = accepted-good text proof (answered .formula-is) (answered .rows) (answered .accepts) in
-      omega (arith, few, rows-length universals-most node-row no-row (answered .rows) (nodes-wide (house (answered .formula-is)) (answered .formula-is) (P .0) (answered .rows) (P .1)))
+      let P = accepted-good base text proof (answered .formula-is) (answered .rows) (answered .accepts) in
+      omega (arith, few, rows-length universals-most node-row no-row (answered .rows) (nodes-wide (rules-of base (answered .formula-is) proof) (answered .formula-is) (P .0) (answered .rows) (P .1)))
 
   long-after : map-words ≤ length n
   long-after = omega (arith, nodes-long, ap length nodes-held ∙ holding-length map-words (rows-of node-row (answered .rows)) (T .nodes) rows-fit nodes-long)
@@ -104,10 +104,10 @@ module _ (text proof : List ℕ) (T : Lent) (r : Reply) (p c l n t : List ℕ) (
     root-is : last-root-word r t j ≡ last-root (answered .rows) j
     unfolding the-rows
     root-is =
-        let P = accepted-good text proof (answered .formula-is) (answered .rows) (answered .accepts) in
+        let P = accepted-good base text proof (answered .formula-is) (answered .rows) (answered .accepts) in
         let m : suc (length (answered .rows) - 1) ≡ length (answered .rows) = omega (arith, few) in
         ap (λ (q : ℕ). getD t (universals-most * (q - 1) + j) 0) line-count
-        ∙ table-root-rows (house (answered .formula-is)) (answered .formula-is) (P .0) (answered .rows) (P .1) (few .1) j in-formula (T .roots) t roots-held (length (answered .rows) - 1) (omega (arith, few))
+        ∙ table-root-rows (rules-of base (answered .formula-is) proof) (answered .formula-is) (P .0) (answered .rows) (P .1) (few .1) j in-formula (T .roots) t roots-held (length (answered .rows) - 1) (omega (arith, few))
         ∙ ap (root-at (answered .rows) j) m
 
     -- playing the last map is never refused, and gives the definition's value
@@ -115,10 +115,10 @@ module _ (text proof : List ℕ) (T : Lent) (r : Reply) (p c l n t : List ℕ) (
         → q ≡ record { number = 0; value = value-word (plays (column the-rows j) (has (settings ∷ [])) (last-root the-rows j)) }
     unfolding the-rows
     play-last settings q e =
-        let P = accepted-good text proof (answered .formula-is) (answered .rows) (answered .accepts) in
+        let P = accepted-good base text proof (answered .formula-is) (answered .rows) (answered .accepts) in
         e
         ∙ ap (λ (w : ℕ). playing (suc j) w n (settings ∷ [])) root-is
-        ∙ table-plays (house (answered .formula-is)) (answered .formula-is) (P .0) (answered .rows) (P .1) (few .1) j in-formula (T .nodes) n nodes-held long-after
+        ∙ table-plays (rules-of base (answered .formula-is) proof) (answered .formula-is) (P .0) (answered .rows) (P .1) (few .1) j in-formula (T .nodes) n nodes-held long-after
         (length (answered .rows)) (few .0) (omega arith) (settings ∷ [])
 
     -- two settings that agree on the existential variables left of the universal get the same answer

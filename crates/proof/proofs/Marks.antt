@@ -9,6 +9,7 @@ use native.Mathlib.Decide.{decLt}
 use lib.Dec.{eqb, ltb}
 use lib.ListN.{length, getD, take}
 use borrow.Author.Tests.{lt-ltb, le-ltb, eq-eqb, ne-eqb}
+use Rattle.rules.specs.definitions.Formula.{Formula}
 use Rattle.rules.specs.definitions.Text.{spelled}
 use Rattle.theory.specs.laws.Formula.{eqb-comm}
 use Rattle.rules.specs.definitions.File.{pair-at}
@@ -38,16 +39,16 @@ unfolding unmarked
 marked-long s e = by-cases (decLt (length s) 7) (λ l. absurd (false≢true (sym e ∙ rw (lt-ltb (length s) 7 l)))) (λ l. omega arith)
 
 -- ---- the answer, by the first of the head's tests that fails
-module _ (k : ℕ) (s : List ℕ) where
-  head-unfold : head-of k s ≡ headed (first-of (fault 11 (unmarked s) ∷ fault 12 (not (eqb (length s) (7 + 0 + 8 * pair-at s 5))) ∷ fault 13 (ltb (pair-at s 5) 1 || ltb 1024 (pair-at s 5)) ∷ [])) (pair-at s 5)
+module _ (F : Formula) (s : List ℕ) where
+  head-unfold : head-of F s ≡ headed (first-of (fault 11 (unmarked s) ∷ fault 12 (not (eqb (length s) (7 + 0 + 8 * pair-at s 5))) ∷ fault 13 (ltb (pair-at s 5) 1 || ltb 1024 (pair-at s 5)) ∷ [])) (pair-at s 5)
   unfolding head-of head-fault unmarked
   head-unfold = refl
 
-  pub head-unmarked : unmarked s ≡ true → head-of k s ≡ H.Fault 11
+  pub head-unmarked : unmarked s ≡ true → head-of F s ≡ H.Fault 11
   unfolding first-of
   head-unmarked e = head-unfold ∙ rw e
 
-  pub head-length : unmarked s ≡ false → (length s ≡ 7 + 8 * pair-at s 5 → ⊥) → head-of k s ≡ H.Fault 12
+  pub head-length : unmarked s ≡ false → (length s ≡ 7 + 8 * pair-at s 5 → ⊥) → head-of F s ≡ H.Fault 12
   unfolding first-of
   head-length e n = let m : length s ≡ 7 + 0 + 8 * pair-at s 5 → ⊥ = λ p. n (omega arith) in head-unfold ∙ rw (e, ne-eqb _ _ m)
 
@@ -55,14 +56,14 @@ module _ (k : ℕ) (s : List ℕ) where
     fitting : length s ≡ 7 + 0 + 8 * pair-at s 5
     fitting = omega arith
 
-    pub head-none : pair-at s 5 < 1 → head-of k s ≡ H.Fault 13
+    pub head-none : pair-at s 5 < 1 → head-of F s ≡ H.Fault 13
     unfolding first-of
     head-none h = head-unfold ∙ rw (e, eq-eqb _ _ fitting, lt-ltb _ _ h)
 
-    pub head-many : 1 ≤ pair-at s 5 → 1024 < pair-at s 5 → head-of k s ≡ H.Fault 13
+    pub head-many : 1 ≤ pair-at s 5 → 1024 < pair-at s 5 → head-of F s ≡ H.Fault 13
     unfolding first-of
     head-many o h = head-unfold ∙ rw (e, eq-eqb _ _ fitting, le-ltb _ _ o, lt-ltb _ _ h)
 
-    pub head-lines : 1 ≤ pair-at s 5 → pair-at s 5 ≤ 1024 → head-of k s ≡ H.Lines (pair-at s 5)
+    pub head-lines : 1 ≤ pair-at s 5 → pair-at s 5 ≤ 1024 → head-of F s ≡ H.Lines (pair-at s 5)
     unfolding first-of
     head-lines o h = head-unfold ∙ rw (e, eq-eqb _ _ fitting, le-ltb _ _ o, le-ltb _ _ h)

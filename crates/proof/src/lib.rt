@@ -21,6 +21,7 @@ ghost use mathlib.Core.Bool.{not};
 ghost use Prim.Native.Nat.{ℕ, _+_, _<_};
 ghost use lib.ListN.{length};
 ghost use Rattle.rules.specs.definitions.Layout.{record-bytes};
+ghost use Rattle.rules.specs.definitions.Formula.{Formula};
 ghost use Rattle.rules.specs.definitions.File.{pair-at, bare-tail, decoded};
 ghost use Rattle.proof.specs.Head.{unmarked, head-of};
 
@@ -113,9 +114,9 @@ fn marked(proof: &[u8]) -> bool
     true
 }
 
-// The head's line count, or the number of its first fault; the same for every number k of universals.
+// The head's line count, or the number of its first fault; the same for every formula.
 pub fn read_head(proof: &[u8]) -> Head
-    ensures { λ r. ⌜ ((k : ℕ) → r ≡ head-of k (now (proof .entry))) ⌝ }
+    ensures { λ r. ⌜ ((F : Formula) → r ≡ head-of F (now (proof .entry))) ⌝ }
 {
     if !marked(proof) {
         return Head::Fault(BAD_MARK);

@@ -12,7 +12,7 @@ use Rattle.rules.specs.definitions.Formula.{Quant, Bound, Formula, universals}
 use Rattle.rules.specs.definitions.Formula.Quant.{exists, forall}
 use Rattle.rules.specs.statements.Proper.{Proper, var-at}
 use Rattle.theory.specs.laws.Formula.{proper-length}
-use Rattle.rules.specs.definitions.Lines.{Row, house, no-row, column, root-at, each}
+use Rattle.rules.specs.definitions.Lines.{Row, no-row, column, root-at, each}
 use Rattle.rules.specs.definitions.Tables.{bound-word, node-row, root-row, rows-of, padded, holding}
 use Rattle.theory.specs.laws.Tables.{rows-length, holding-length}
 use Rattle.theory.specs.laws.Playing.{nodes-wide, roots-wide, table-column-rows, table-root-rows}
@@ -20,6 +20,7 @@ use Rattle.rules.specs.definitions.Services.{table-column}
 use Rattle.rules.specs.statements.Good.{Good}
 use Rattle.rules.specs.definitions.Checking.{checked}
 use Rattle.rules.specs.definitions.Checking.Checked.{accepted}
+use Rattle.rules.specs.definitions.Checking.{base, rules-of}
 use Rattle.theory.specs.theorems.Countermodel.{accepted-good, accepted-lines}
 use Rattle.rules.specs.definitions.Report.{joined, map-lines, maps-text}
 use Rattle.theory.specs.laws.Report.{map-lines-same}
@@ -117,13 +118,13 @@ module _ (text proof : List ℕ) (F : Formula) (rows : List Row) (accepts : chec
     (roots-are : roots ≡ holding map-words (rows-of root-row rows) lent-roots)
     (prefix-long : 64 ≤ length lent-prefix) (nodes-long : 16384 ≤ length lent-nodes) (roots-long : 16384 ≤ length lent-roots) where
   proper : Proper F
-  proper = accepted-good text proof F rows accepts .0
+  proper = accepted-good base text proof F rows accepts .0
 
-  good : Good (house F) F rows
-  good = accepted-good text proof F rows accepts .1
+  good : Good (rules-of base F proof) F rows
+  good = accepted-good base text proof F rows accepts .1
 
   count : (1 ≤ length rows) × (length rows ≤ lines-most)
-  count = accepted-lines text proof F rows accepts
+  count = accepted-lines base text proof F rows accepts
 
   words : length (map bound-word (F .prefix)) ≤ 64
   words = omega (arith, length-map (F .prefix) bound-word, proper-length F proper, proper .variables)
@@ -136,7 +137,7 @@ module _ (text proof : List ℕ) (F : Formula) (rows : List Row) (accepts : chec
       let z : (length rows - 1) * universals-most + j ≡ universals-most * (length rows - 1) + j = omega arith in
       let s : suc (length rows - 1) ≡ length rows = omega (arith, count) in
       ap (λ (k : ℕ). getD roots k 0) z
-      ∙ table-root-rows (house F) F proper rows good (count .1) j l lent-roots roots roots-are (length rows - 1) (omega (arith, count))
+      ∙ table-root-rows (rules-of base F proof) F proper rows good (count .1) j l lent-roots roots roots-are (length rows - 1) (omega (arith, count))
       ∙ ap (root-at rows j) s
 
   root-range : (j : ℕ) → j < length (universals (F .prefix)) → (1 ≤ root-at rows j (length rows)) × (root-at rows j (length rows) ≤ length rows)
@@ -152,7 +153,7 @@ module _ (text proof : List ℕ) (F : Formula) (rows : List Row) (accepts : chec
       ap (λ (r : ℕ). map-lines (table-column nodes (j + 1)) r u) (root-is j l)
       ∙ ap (λ (c : ℕ). map-lines (table-column nodes c) (root-at rows j (length rows)) u) (add-one j)
       ∙ map-lines-same (table-column nodes (suc j)) (column rows j) (root-at rows j (length rows)) u
-      (λ k h. table-column-rows (house F) F proper rows good (count .1) j l lent-nodes nodes nodes-are k (omega (arith, root-range j l, count)))
+      (λ k h. table-column-rows (rules-of base F proof) F proper rows good (count .1) j l lent-nodes nodes nodes-are k (omega (arith, root-range j l, count)))
 
   taken : take 64 prefix ≡ map bound-word (F .prefix) ++ replicate (64 - length (map bound-word (F .prefix))) 0
   unfolding prefix-words
@@ -177,14 +178,14 @@ module _ (text proof : List ℕ) (F : Formula) (rows : List Row) (accepts : chec
           arith,
           ap length nodes-are,
           holding-length 16384 (rows-of node-row rows) lent-nodes
-              (omega (arith, rows-length universals-most node-row no-row rows (nodes-wide (house F) F proper rows good), count)) nodes-long,
+              (omega (arith, rows-length universals-most node-row no-row rows (nodes-wide (rules-of base F proof) F proper rows good), count)) nodes-long,
         );
     roots-long =
         omega (
           arith,
           ap length roots-are,
           holding-length 16384 (rows-of root-row rows) lent-roots
-              (omega (arith, rows-length universals-most root-row no-row rows (roots-wide (house F) F proper rows good), count)) roots-long,
+              (omega (arith, rows-length universals-most root-row no-row rows (roots-wide (rules-of base F proof) F proper rows good), count)) roots-long,
         );
     ready =
         subst (λ (ws : List ℕ). Ready roots (length rows) ws 0) (sym taken)

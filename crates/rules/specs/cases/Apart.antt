@@ -249,7 +249,7 @@ all-checked (c ∷ cs) = checked-so c && all-checked cs
 -- the head's refusal
 unfoldable pub heads : List ℕ → Found
 unfolding checks
-heads s = head-fault merge-proof 0 s
+heads s = head-fault merge-proof (record { variables = 0; prefix = []; matrix = [] }) s
 
 -- ---- 004's Examples 15 and 16: roots of the last line, and the nodes
 abbrev pub example-15 : String

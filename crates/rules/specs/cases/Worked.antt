@@ -9,7 +9,7 @@ use Rattle.rules.specs.declared.Value.the-variants.{Zero}
 use Rattle.rules.specs.declared.Node.{Node}
 use Rattle.rules.specs.declared.Node.the-variants.{None, Leaf, Branch}
 use Rattle.rules.specs.declared.Played.{Played}
-use Rattle.rules.specs.definitions.Layout.{set-words, prefix-words, clause-words, line-words, map-words}
+use Rattle.rules.specs.definitions.Layout.{set-words, clause-width, prefix-words, clause-words, line-words, map-words}
 use Rattle.rules.specs.definitions.Bits.{bit}
 use Rattle.rules.specs.definitions.Sets.{none, has, with, without, join, only, some, empty, meet}
 use Rattle.rules.specs.definitions.Faults.{first-of}
@@ -33,7 +33,7 @@ lent = record { prefix = replicate 65 9; clauses = replicate 513 9; lines = repl
 
 -- checking, and what it leaves
 unfoldable pub checks : List ℕ → List ℕ → Answer
-unfolding set-words prefix-words clause-words line-words map-words bit none has with without join only some empty meet first-of bound-by bound universals existentials left-of completed with-literal has-opposite kept-by resolvent two-faced empty-clause uncommented lead tokens spelled grown sized counting number-of step read-from read pair-at head-fault split records decoded node-word node-of pair compare visit pass isomorphic row-at each axiom-row select resolution-row line-faults line-row line-made next-line lines-from all-lines checked-by checking text hex
+unfolding set-words clause-width prefix-words clause-words line-words map-words bit none has with without join only some empty meet first-of bound-by bound universals existentials left-of completed with-literal has-opposite kept-by resolvent two-faced empty-clause uncommented lead tokens spelled grown sized counting number-of step read-from read pair-at head-fault split records decoded node-word node-of pair compare visit pass isomorphic row-at each axiom-row select resolution-row line-faults line-row line-made next-line lines-from all-lines checked-by checking text hex
 checks t p = checking t p lent
 
 unfoldable pub leaves : List ℕ → List ℕ → Lent

@@ -5,11 +5,12 @@ use Prim.Native.Nat.{ℕ, suc}
 use lib.ListN.{length}
 use Rattle.rules.specs.definitions.Refusals.{not-empty}
 use Rattle.rules.specs.definitions.Faults.Found.{passes, fails}
-use Rattle.rules.specs.definitions.Formula.{Formula, universals, empty-clause}
+use Rattle.rules.specs.definitions.Formula.{Formula, empty-clause}
 use Rattle.rules.specs.definitions.Reading.{read}
 use Rattle.rules.specs.definitions.Reading.Reading.{unread, formula}
-use Rattle.rules.specs.definitions.File.{Form, merge-proof, head-fault, records}
-use Rattle.rules.specs.definitions.Lines.{Row, Rules, house, clause-at, next-line}
+use Rattle.rules.specs.definitions.Maps.{Column}
+use Rattle.rules.specs.definitions.File.{Form, merge-proof, version-in, head-fault, records}
+use Rattle.rules.specs.definitions.Lines.{Row, Rules, strict, clause-at, next-line}
 use Rattle.rules.specs.definitions.Lines.Made.{made, refused}
 
 -- all lines pass and make these rows, or the number, the line and the variable of the first that does not
@@ -36,26 +37,45 @@ pub data Checked : Type 0 where
   rejected : ℕ → ℕ → ℕ → Checked
   accepted : Formula → List Row → Checked
 
--- what is done with rows that all pass: checking asks that the last clause is empty
-abbrev pub refutation : Formula → List Row → Checked
-refutation F rows = elim (last-empty rows) [ true ↦ accepted F rows | false ↦ rejected not-empty (length rows) 0 ]
+-- ---- how a service checks
+pub record Manner : Type 0 where
+  -- select's third ground
+  pub ground : Column → ℕ → ℕ → Bool
+  -- the kind of file
+  pub form : Form
+  -- what is asked of rows that all pass
+  pub asks : List Row → Bool
 
-abbrev pub when-passed : (Formula → List Row → Checked) → Formula → Passed → Checked
-when-passed last F (passed rows) = last F rows
-when-passed last F (stopped n i v) = rejected n i v
+-- a refutation is asked for
+abbrev pub refuting : (Column → ℕ → ℕ → Bool) → Form → Manner
+refuting ground form = record { ground = ground; form = form; asks = last-empty }
 
-abbrev pub proof-lines : (Formula → Rules) → (Formula → List Row → Checked) → Form → Formula → List ℕ → Checked
-proof-lines rules last form F proof = when-passed last F (all-lines (rules F) F (records form (length (universals (F .prefix))) proof))
+-- 01's own
+abbrev pub base : Manner
+base = refuting strict merge-proof
 
-abbrev pub proof-checked : (Formula → Rules) → (Formula → List Row → Checked) → Form → Formula → List ℕ → Checked
-proof-checked rules last form F proof =
-    elim (head-fault form (length (universals (F .prefix))) proof) [ passes ↦ proof-lines rules last form F proof | fails n v ↦ rejected n 0 v ]
+-- the rules for the lines of a file
+abbrev pub rules-of : Manner → Formula → List ℕ → Rules
+rules-of m F proof = record { decode = version-in (m .form) proof .decode; left = version-in (m .form) proof .left F proof; ground = m .ground }
 
--- by stages: the text, the file's head, the lines, the last clause
-unfoldable pub checked-by : (Formula → Rules) → (Formula → List Row → Checked) → Form → List ℕ → List ℕ → Checked
-checked-by rules last form text proof =
-    elim (read text) [ unread n at ↦ rejected n at 0 | formula F ↦ proof-checked rules last form F proof ]
+-- all lines of a file
+abbrev pub lines-of : Manner → Formula → List ℕ → Passed
+lines-of m F proof = all-lines (rules-of m F proof) F (records (m .form) F proof)
+
+-- ---- by stages: the text, the file's head, the lines, the last clause
+abbrev pub last-checked : Manner → Formula → List Row → Checked
+last-checked m F rows = elim (m .asks rows) [ true ↦ accepted F rows | false ↦ rejected not-empty (length rows) 0 ]
+
+abbrev pub when-passed : Manner → Formula → Passed → Checked
+when-passed m F (passed rows) = last-checked m F rows
+when-passed m F (stopped n i v) = rejected n i v
+
+abbrev pub proof-checked : Manner → Formula → List ℕ → Checked
+proof-checked m F proof = elim (head-fault (m .form) F proof) [ passes ↦ when-passed m F (lines-of m F proof) | fails n v ↦ rejected n 0 v ]
+
+unfoldable pub checked-by : Manner → List ℕ → List ℕ → Checked
+checked-by m text proof = elim (read text) [ unread n at ↦ rejected n at 0 | formula F ↦ proof-checked m F proof ]
 
 -- 01's checking
 abbrev pub checked : List ℕ → List ℕ → Checked
-checked text proof = checked-by house refutation merge-proof text proof
+checked = checked-by base

@@ -12,7 +12,8 @@ use Rattle.rules.specs.declared.Decoded.the-variants as D
 use Rattle.rules.specs.definitions.Layout.{head-bytes, record-bytes}
 use Rattle.rules.specs.definitions.Limits.{lines-most}
 use Rattle.rules.specs.definitions.Refusals.{bad-mark, bad-length, bad-line-count, bad-kind, axiom-tail}
-use Rattle.rules.specs.definitions.Faults.{fault, Found, first-of}
+use Rattle.rules.specs.definitions.Faults.{Fault, fault, Found, first-of}
+use Rattle.rules.specs.definitions.Formula.{Formula, universals, left-of}
 use Rattle.rules.specs.definitions.Text.{spelled}
 
 -- the byte at a place, counted from 0; past the end, where nothing is asked, 0
@@ -22,38 +23,6 @@ byte-at s k = getD s k 0
 -- every two-byte number in the file has its low byte first
 unfoldable pub pair-at : List ℕ → ℕ → ℕ
 pair-at s k = byte-at s k + byte-at s (k + 1) * 256
-
--- a kind of file: its mark, its version, and the bytes between head and records for k universals
-pub record Form : Type 0 where
-  pub mark : List ℕ
-  pub version : ℕ
-  pub between : ℕ → ℕ
-
--- MRP, version 1
-abbrev pub merge-proof : Form
-merge-proof = record { mark = 77 ∷ 82 ∷ 80 ∷ []; version = 1; between = λ k. 0 }
-
--- the line count that the head announces
-abbrev pub announced : List ℕ → ℕ
-announced s = pair-at s 5
-
--- the head's refusals in order, for a formula with k universals
-unfoldable pub head-fault : Form → ℕ → List ℕ → Found
-head-fault form k s =
-    first-of
-    (fault bad-mark (ltb (length s) head-bytes || (not (spelled (form .mark) (take 3 s)) || not (eqb (pair-at s 3) (form .version))))
-    ∷ fault bad-length (not (eqb (length s) (head-bytes + form .between k + record-bytes * announced s)))
-    ∷ fault bad-line-count (ltb (announced s) 1 || ltb lines-most (announced s))
-    ∷ [])
-
--- n records of 8 bytes
-unfoldable pub split : ℕ → List ℕ → List (List ℕ)
-split zero s = []
-split (suc n) s = take record-bytes s ∷ split n (drop record-bytes s)
-
--- the records of a file
-unfoldable pub records : Form → ℕ → List ℕ → List (List ℕ)
-records form k s = split (announced s) (drop (head-bytes + form .between k) s)
 
 -- ---- a record as a line
 -- bytes 3 to 7 are zero
@@ -70,6 +39,64 @@ decoded s =
       | false ↦ elim (eqb (byte-at s 0) 2) [ true ↦ D.Line (L.Resolve (resolution-at s)) | false ↦ D.Refused bad-kind ]
     ]
 
+-- ---- kinds of files
+-- one version of a kind of file
+pub record Version : Type 0 where
+  -- bytes between head and records, for k universals
+  pub between : ℕ → ℕ
+  -- what is tested there, for a formula and the whole file
+  pub faults : Formula → List ℕ → List Fault
+  -- a record as a line
+  pub decode : List ℕ → Decoded
+  -- x stands left of u
+  pub left : Formula → List ℕ → ℕ → ℕ → Bool
+
+-- a kind of file: its mark, the versions it knows, and what each of them is
+pub record Form : Type 0 where
+  pub mark : List ℕ
+  pub known : ℕ → Bool
+  pub version : ℕ → Version
+
+-- MRP, version 1: nothing stands between head and records, and left is left in the prefix
+abbrev pub version-1 : Version
+version-1 = record { between = λ k. 0; faults = λ F s. []; decode = decoded; left = λ F s. left-of (F .prefix) }
+
+abbrev pub merge-proof : Form
+merge-proof = record { mark = 77 ∷ 82 ∷ 80 ∷ []; known = λ n. eqb n 1; version = λ n. version-1 }
+
+-- the version that the head announces
+abbrev pub version-in : Form → List ℕ → Version
+version-in form s = form .version (pair-at s 3)
+
+-- the line count that the head announces
+abbrev pub announced : List ℕ → ℕ
+announced s = pair-at s 5
+
+-- where the records begin, for a formula
+abbrev pub records-at : Form → Formula → List ℕ → ℕ
+records-at form F s = head-bytes + version-in form s .between (length (universals (F .prefix)))
+
+-- the head's tests in order, for a formula
+abbrev pub head-faults : Form → Formula → List ℕ → List Fault
+head-faults form F s =
+    fault bad-mark (ltb (length s) head-bytes || (not (spelled (form .mark) (take 3 s)) || not (form .known (pair-at s 3))))
+    ∷ fault bad-length (not (eqb (length s) (records-at form F s + record-bytes * announced s)))
+    ∷ fault bad-line-count (ltb (announced s) 1 || ltb lines-most (announced s))
+    ∷ version-in form s .faults F s
+
+-- the head's first fault
+unfoldable pub head-fault : Form → Formula → List ℕ → Found
+head-fault form F s = first-of (head-faults form F s)
+
+-- n records of 8 bytes
+unfoldable pub split : ℕ → List ℕ → List (List ℕ)
+split zero s = []
+split (suc n) s = take record-bytes s ∷ split n (drop record-bytes s)
+
+-- the records of a file
+unfoldable pub records : Form → Formula → List ℕ → List (List ℕ)
+records form F s = split (announced s) (drop (records-at form F s) s)
+
 -- ---- the file of given lines
 abbrev pub pair-bytes : ℕ → List ℕ
 pair-bytes n = n % 256 ∷ n / 256 ∷ []
@@ -82,6 +109,6 @@ unfoldable pub encoded-all : List Line → List ℕ
 encoded-all [] = []
 encoded-all (l ∷ ls) = encoded l ++ encoded-all ls
 
--- the head for n lines, what stands between, and the lines
-unfoldable pub file-of : Form → List ℕ → List Line → List ℕ
-file-of form between ls = form .mark ++ (pair-bytes (form .version) ++ (pair-bytes (length ls) ++ (between ++ encoded-all ls)))
+-- the mark, a version and the number of lines; what stands between; and the lines
+unfoldable pub file-of : List ℕ → ℕ → List ℕ → List Line → List ℕ
+file-of mark version between ls = mark ++ (pair-bytes version ++ (pair-bytes (length ls) ++ (between ++ encoded-all ls)))

@@ -1,5 +1,6 @@
 -- Where words and bytes stand (01): words of a set and of each table, fields of a node word, bytes of head and record.
-use Prim.Native.Nat.{ℕ}
+use Prim.Native.Nat.{ℕ, _*_}
+use Rattle.rules.specs.definitions.Limits.{universals-most, clauses-most, lines-most}
 
 -- ---- words: a set of variables is so many words of so many bits
 unfoldable pub set-words : ℕ
@@ -8,19 +9,28 @@ set-words = 1
 abbrev pub word-bits : ℕ
 word-bits = 64
 
+-- a clause: its variables plain, and those negated
+unfoldable pub clause-width : ℕ
+unfolding set-words
+clause-width = 2 * set-words
+
 -- ---- 01, Sizes: minimum lengths of the lent tables
+-- a word for each variable of a set
 unfoldable pub prefix-words : ℕ
-prefix-words = 64
+unfolding set-words
+prefix-words = set-words * word-bits
 
 unfoldable pub clause-words : ℕ
-clause-words = 512
+unfolding clause-width
+clause-words = clauses-most * clause-width
 
 unfoldable pub line-words : ℕ
-line-words = 2048
+unfolding clause-width
+line-words = lines-most * clause-width
 
 -- nodes, and roots
 unfoldable pub map-words : ℕ
-map-words = 16384
+map-words = lines-most * universals-most
 
 -- ---- 01, Formula text: a universal's mark in the prefix table
 abbrev pub universal-mark : ℕ

@@ -18,18 +18,18 @@ use Rattle.rules.specs.definitions.Bits.{bit}
 use Rattle.rules.specs.definitions.Sets.{has}
 use Rattle.rules.specs.definitions.Faults.{Fault, fault, Found, first-of}
 use Rattle.rules.specs.definitions.Faults.Found.{passes, fails}
-use Rattle.rules.specs.definitions.Formula.{Clause, Formula, bound-by, universals, existentials, left-of, no-literal, kept-by, resolvent, two-faced}
+use Rattle.rules.specs.definitions.Formula.{Clause, Formula, bound-by, universals, existentials, no-literal, kept-by, resolvent, two-faced}
 use Rattle.rules.specs.definitions.Formula.Quant.{exists}
 use Rattle.rules.specs.definitions.Maps.{Column, star?}
 use Rattle.rules.specs.definitions.Comparing.{isomorphic}
-use Rattle.rules.specs.definitions.File.{decoded}
 
--- ---- rows: a line has a clause and, for each universal in order, its node (or none) and its root
+-- ---- rows: the line as it was given, its clause and, for each universal in order, its node (or none) and its root
 pub record Entry : Type 0 where
   pub node : Node
   pub root : ℕ
 
 pub record Row : Type 0 where
+  pub line : Line
   pub clause : Clause
   pub entries : List Entry
 
@@ -37,7 +37,7 @@ abbrev pub no-entry : Entry
 no-entry = record { node = None; root = 0 }
 
 abbrev pub no-row : Row
-no-row = record { clause = no-literal; entries = [] }
+no-row = record { line = L.Axiom 0; clause = no-literal; entries = [] }
 
 -- line i's row, lines counted from 1
 unfoldable pub row-at : List Row → ℕ → Row
@@ -63,14 +63,16 @@ unfoldable pub each {ℓ} : {A : Type ℓ} → (ℕ → ℕ → A) → List ℕ 
 each f [] j = []
 each f (u ∷ us) j = f j u ∷ each f us (suc j)
 
--- ---- what may differ between rules: which x stands left of which u, and select's third ground, on the nodes of two roots of one column
+-- ---- what may differ between rules: how a record is decoded, which x stands left of which u,
+-- and select's third ground, on the nodes of two roots of one column
 pub record Rules : Type 0 where
+  pub decode : List ℕ → Decoded
   pub left : ℕ → ℕ → Bool
   pub ground : Column → ℕ → ℕ → Bool
 
--- 01's own: left in the prefix, and isomorphic maps
-abbrev pub house : Formula → Rules
-house F = record { left = left-of (F .prefix); ground = λ T r t. isomorphic T r T t }
+-- 01's third ground: isomorphic maps
+abbrev pub strict : Column → ℕ → ℕ → Bool
+strict T r t = isomorphic T r T t
 
 -- ---- axiom: zero if u stands plain in the clause, one if negated, star if absent
 abbrev pub falsifying : Clause → ℕ → Value
@@ -84,6 +86,7 @@ leaf-entry c i j u = record { node = Leaf (falsifying c u); root = i }
 
 unfoldable pub axiom-row : Formula → ℕ → ℕ → Row
 axiom-row F i c = record {
+  line = L.Axiom c;
   clause = kept-by (existentials (F .prefix)) (clause-number F c);
   entries = each (leaf-entry (clause-number F c) i) (universals (F .prefix)) 0;
 }
@@ -164,6 +167,7 @@ map-entry R rows i r chosen j u =
 
 unfoldable pub resolution-row : Rules → Formula → List Row → ℕ → Resolution → (ℕ → Bool) → Row
 resolution-row R F rows i r chosen = record {
+  line = L.Resolve r;
   clause = result rows r;
   entries = each (map-entry R rows i r chosen) (universals (F .prefix)) 0;
 }
@@ -177,11 +181,14 @@ abbrev pub unless-found : Found → Row → Made
 unless-found passes row = made row
 unless-found (fails n v) row = refused n v
 
+-- a resolution's tests in order, with what is asked at the places of 28, and of 30 and 31
+abbrev pub resolution-faults : Formula → List Row → ℕ → Resolution → List Fault → List Fault → List Fault
+resolution-faults F rows i r set maps = parent-faults F rows i r ++ (set ++ (result-faults rows r ++ maps))
+
 -- the rules for line i, in the listed order
 unfoldable pub line-faults : Rules → Formula → List Row → ℕ → Line → List Fault
 line-faults R F rows i (L.Axiom c) = axiom-faults F c
-line-faults R F rows i (L.Resolve r) =
-    parent-faults F rows i r ++ (set-faults F (r .merge) ++ (result-faults rows r ++ map-faults R F rows r (in-set (r .merge))))
+line-faults R F rows i (L.Resolve r) = resolution-faults F rows i r (set-faults F (r .merge)) (map-faults R F rows r (in-set (r .merge)))
 
 unfoldable pub line-row : Rules → Formula → List Row → ℕ → Line → Row
 line-row R F rows i (L.Axiom c) = axiom-row F i c
@@ -196,4 +203,4 @@ decoded-made R F rows i (D.Refused n) = refused n 0
 
 -- the line that comes after the rows, from its record
 unfoldable pub next-line : Rules → Formula → List Row → List ℕ → Made
-next-line R F rows bytes = decoded-made R F rows (suc (length rows)) (decoded bytes)
+next-line R F rows bytes = decoded-made R F rows (suc (length rows)) (R .decode bytes)

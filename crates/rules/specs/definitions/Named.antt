@@ -8,21 +8,17 @@ use lib.ListN.{length, getD}
 use Rattle.rules.specs.declared.Resolution.{Resolution}
 use Rattle.rules.specs.declared.Line.{Line}
 use Rattle.rules.specs.declared.Line.the-variants.{Axiom, Resolve}
+use Rattle.rules.specs.declared.Decoded.{Decoded}
 use Rattle.rules.specs.declared.Decoded.the-variants as D
 use Rattle.rules.specs.definitions.Sets.{has}
-use Rattle.rules.specs.definitions.Formula.{Formula, bound-by, universals, left-of, resolvent}
+use Rattle.rules.specs.definitions.Formula.{Formula, bound-by, universals, resolvent}
 use Rattle.rules.specs.definitions.Formula.Quant.{exists}
-use Rattle.rules.specs.definitions.File.{decoded}
 use Rattle.rules.specs.definitions.Lines.{clause-number, in-set}
-use Rattle.rules.specs.definitions.Paper.{single, falsifying-literal, Same-literals, Existential-part, Select, Merged, Proof-line}
+use Rattle.rules.specs.definitions.Paper.{single, falsifying-literal, Same-literals, Existential-part, Select, Calculus, Merged, Proof-line}
 
 -- the variable of the universal at offset j
 abbrev pub universal-at : Formula → ℕ → ℕ
 universal-at Φ j = getD (universals (Φ .prefix)) j 0
-
--- x stands left of u in the prefix
-abbrev pub Left-in : Formula → ℕ → ℕ → Type 0
-Left-in Φ x u = left-of (Φ .prefix) x u ≡ true
 
 -- axiom with clause number c
 pub record Named-axiom (Φ : Formula) (L : ℕ → Proof-line) (i c : ℕ) : Type 0 where
@@ -32,7 +28,7 @@ pub record Named-axiom (Φ : Formula) (L : ℕ → Proof-line) (i c : ℕ) : Typ
       → L i .map (universal-at Φ j) ≡ single i (falsifying-literal (clause-number Φ c) (universal-at Φ j))
 
 -- resolution with the parents, the pivot and the merge set of r
-pub record Named-resolution (Φ : Formula) (L : ℕ → Proof-line) (i : ℕ) (r : Resolution) : Type 0 where
+pub record Named-resolution (C : Calculus) (Φ : Formula) (L : ℕ → Proof-line) (i : ℕ) (r : Resolution) : Type 0 where
   pub a-earlier : (1 ≤ r .a) × (r .a < i)
   pub b-earlier : (1 ≤ r .b) × (r .b < i)
   pub pivot : bound-by exists (Φ .prefix) (r .pivot) ≡ true
@@ -44,18 +40,18 @@ pub record Named-resolution (Φ : Formula) (L : ℕ → Proof-line) (i : ℕ) (r
   -- the house rule: the result has no variable both ways
   pub house : (v : ℕ) → has (L i .clause .plain) v ≡ true → has (L i .clause .negated) v ≡ true → ⊥
   pub merged : (j : ℕ) → j < length (universals (Φ .prefix)) → in-set (r .merge) j ≡ true
-      → Merged (Left-in Φ) (r .pivot) (universal-at Φ j) (L (r .a) .map (universal-at Φ j)) (L (r .b) .map (universal-at Φ j)) i (L i .map (universal-at Φ j))
+      → Merged C (r .pivot) (universal-at Φ j) (L (r .a) .map (universal-at Φ j)) (L (r .b) .map (universal-at Φ j)) i (L i .map (universal-at Φ j))
   pub selected : (j : ℕ) → j < length (universals (Φ .prefix)) → in-set (r .merge) j ≡ false
-      → Select (L (r .a) .map (universal-at Φ j)) (L (r .b) .map (universal-at Φ j)) (L i .map (universal-at Φ j))
+      → Select (C .Same) (L (r .a) .map (universal-at Φ j)) (L (r .b) .map (universal-at Φ j)) (L i .map (universal-at Φ j))
 
-abbrev pub Named : Formula → (ℕ → Proof-line) → ℕ → Line → Type 0
-Named Φ L i (Axiom c) = Named-axiom Φ L i c
-Named Φ L i (Resolve r) = Named-resolution Φ L i r
+abbrev pub Named : Calculus → Formula → (ℕ → Proof-line) → ℕ → Line → Type 0
+Named C Φ L i (Axiom c) = Named-axiom Φ L i c
+Named C Φ L i (Resolve r) = Named-resolution C Φ L i r
 
--- line i follows from its record
-abbrev pub Follows-record : Formula → (ℕ → Proof-line) → ℕ → List ℕ → Type 0
-Follows-record Φ L i bytes = (l : Line) × (decoded bytes ≡ D.Line l) × Named Φ L i l
+-- line i follows from its record, decoded so
+abbrev pub Follows-record : (List ℕ → Decoded) → Calculus → Formula → (ℕ → Proof-line) → ℕ → List ℕ → Type 0
+Follows-record decode C Φ L i bytes = (l : Line) × (decode bytes ≡ D.Line l) × Named C Φ L i l
 
 -- lines 1 to n follow from the n records
-abbrev pub Follow : Formula → (ℕ → Proof-line) → List (List ℕ) → Type 0
-Follow Φ L rs = (i : ℕ) → i < length rs → Follows-record Φ L (suc i) (getD rs i [])
+abbrev pub Follow : (List ℕ → Decoded) → Calculus → Formula → (ℕ → Proof-line) → List (List ℕ) → Type 0
+Follow decode C Φ L rs = (i : ℕ) → i < length rs → Follows-record decode C Φ L (suc i) (getD rs i [])

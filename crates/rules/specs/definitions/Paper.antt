@@ -10,7 +10,7 @@ use Rattle.rules.specs.declared.Value.the-variants.{Star, One, Zero}
 use Rattle.rules.specs.declared.Node.{Node}
 use Rattle.rules.specs.declared.Node.the-variants.{None, Leaf, Branch}
 use Rattle.rules.specs.definitions.Sets.{has}
-use Rattle.rules.specs.definitions.Formula.{Clause, Formula, Assignment, bound-by, resolvent}
+use Rattle.rules.specs.definitions.Formula.{Clause, Formula, Assignment, bound-by, left-of, resolvent}
 use Rattle.rules.specs.definitions.Formula.Quant.{exists, forall}
 use Rattle.rules.specs.definitions.Maps.{renamed}
 
@@ -68,10 +68,10 @@ single i l = record { greatest = i; node = λ k. cond (eqb k i) (Leaf l) None }
 abbrev pub Trivial : Map → Type 0
 Trivial M = Isomorphism M (single 1 Star)
 
--- select(M, N) is the third
-pub data Select (M N : Map) : Map → Type 0 where
-  second : Trivial M → Select M N N
-  first : (Trivial M → ⊥) → Isomorphism M N ⊎ Trivial N → Select M N M
+-- select(M, N) is the third; where 004 says isomorphic, Same stands
+pub data Select (Same : Map → Map → Type 0) (M N : Map) : Map → Type 0 where
+  second : Trivial M → Select Same M N N
+  first : (Trivial M → ⊥) → Same M N ⊎ Trivial N → Select Same M N M
 
 -- ---- Definition 12: merge
 abbrev pub else : Node → Node → Node
@@ -86,6 +86,15 @@ merge M N n x = record {
 }
 
 -- ---- Definition 14: merge resolution
+-- what may stand for "left of" and for "isomorphic" in it
+pub record Calculus : Type 1 where
+  pub Left : ℕ → ℕ → Type 0
+  pub Same : Map → Map → Type 0
+
+-- 004's own: left in the prefix, isomorphic maps
+abbrev pub merge-resolution : Formula → Calculus
+merge-resolution Φ = record { Left = λ x u. left-of (Φ .prefix) x u ≡ true; Same = Isomorphism }
+
 -- a line: a clause, and a map for each universal variable
 pub record Proof-line : Type 0 where
   pub clause : Clause
@@ -119,11 +128,11 @@ pub record By-axiom (Φ : Formula) (L : ℕ → Proof-line) (i : ℕ) : Type 0 w
   pub maps : (u : ℕ) → Universal Φ u → L i .map u ≡ single i (falsifying-literal source u)
 
 -- (b)(ii): x is left of u, and the map is merge(Mₐ, M_b, i, x)
-abbrev pub Merged : (ℕ → ℕ → Type 0) → ℕ → ℕ → Map → Map → ℕ → Map → Type 0
-Merged Left x u M N i K = Left x u × Consistent M N × (K ≡ merge M N i x)
+abbrev pub Merged : Calculus → ℕ → ℕ → Map → Map → ℕ → Map → Type 0
+Merged C x u M N i K = C .Left x u × Consistent M N × (K ≡ merge M N i x)
 
 -- (b) Resolution
-pub record By-resolution (Left : ℕ → ℕ → Type 0) (Φ : Formula) (L : ℕ → Proof-line) (i : ℕ) : Type 0 where
+pub record By-resolution (C : Calculus) (Φ : Formula) (L : ℕ → Proof-line) (i : ℕ) : Type 0 where
   pub a : ℕ
   pub b : ℕ
   pub x : ℕ
@@ -134,15 +143,15 @@ pub record By-resolution (Left : ℕ → ℕ → Type 0) (Φ : Formula) (L : ℕ
   pub in-b : has (L b .clause .negated) x ≡ true
   pub clause : Same-literals (L i .clause) (resolvent (L a .clause) (L b .clause) x)
   pub maps : (u : ℕ) → Universal Φ u
-      → Select (L a .map u) (L b .map u) (L i .map u) ⊎ Merged Left x u (L a .map u) (L b .map u) i (L i .map u)
+      → Select (C .Same) (L a .map u) (L b .map u) (L i .map u) ⊎ Merged C x u (L a .map u) (L b .map u) i (L i .map u)
 
 -- L 1, .., L k is a derivation
-abbrev pub Derivation : (ℕ → ℕ → Type 0) → Formula → (ℕ → Proof-line) → ℕ → Type 0
-Derivation Left Φ L k = (i : ℕ) → 1 ≤ i → i ≤ k → By-axiom Φ L i ⊎ By-resolution Left Φ L i
+abbrev pub Derivation : Calculus → Formula → (ℕ → Proof-line) → ℕ → Type 0
+Derivation C Φ L k = (i : ℕ) → 1 ≤ i → i ≤ k → By-axiom Φ L i ⊎ By-resolution C Φ L i
 
 abbrev pub Empty : Clause → Type 0
 Empty C = (v : ℕ) → (has (C .plain) v ≡ false) × (has (C .negated) v ≡ false)
 
 -- a refutation: its conclusion's clause is empty
-abbrev pub Refutation : (ℕ → ℕ → Type 0) → Formula → (ℕ → Proof-line) → ℕ → Type 0
-Refutation Left Φ L k = (1 ≤ k) × Derivation Left Φ L k × Empty (L k .clause)
+abbrev pub Refutation : Calculus → Formula → (ℕ → Proof-line) → ℕ → Type 0
+Refutation C Φ L k = (1 ≤ k) × Derivation C Φ L k × Empty (L k .clause)

@@ -6,16 +6,10 @@ use mathlib.Core.Logic.{_≢_}
 use Prim.Native.Nat.{ℕ, _≤_, _<_}
 use lib.ListN.{length, getD}
 use Rattle.rules.specs.declared.Node.the-variants.{None, Branch}
-use Rattle.rules.specs.definitions.Faults.Found.{passes}
 use Rattle.rules.specs.definitions.Formula.{Bound, Clause, Formula, Assignment, Satisfies, bound-by, universals}
 use Rattle.rules.specs.definitions.Formula.Quant.{exists, forall}
-use Rattle.rules.specs.definitions.Reading.{read}
-use Rattle.rules.specs.definitions.Reading.Reading.{formula}
-use Rattle.rules.specs.definitions.File.{Form, head-fault, records}
 use Rattle.rules.specs.definitions.Maps.{plays, Reached}
-use Rattle.rules.specs.definitions.Lines.{Row, column, root-at, Rules}
-use Rattle.rules.specs.definitions.Checking.{all-lines}
-use Rattle.rules.specs.definitions.Checking.Passed.{passed}
+use Rattle.rules.specs.definitions.Lines.{Row, column, root-at}
 use Rattle.rules.specs.statements.Proper.{var-at, kind-at}
 use Rattle.rules.specs.statements.Plays.{played}
 
@@ -52,10 +46,3 @@ Looks-left Q h =
 -- s is a play in which each universal took the strategy's value
 abbrev pub Keeps-to : List Bound → Strategy → ℕ → Assignment → Type 0
 Keeps-to Q h k s = (j : ℕ) → j < k → kind-at Q j ≡ forall → s (var-at Q j) ≡ h j s
-
--- ---- what accepted says of the stages
--- the text is read, the head passes, all lines pass
-pub record All-pass (rules : Formula → Rules) (form : Form) (text proof : List ℕ) (F : Formula) (rows : List Row) : Type 0 where
-  pub given : read text ≡ formula F
-  pub head : head-fault form (length (universals (F .prefix))) proof ≡ passes
-  pub lines : all-lines (rules F) F (records form (length (universals (F .prefix))) proof) ≡ passed rows

@@ -10,8 +10,8 @@ use mathlib.Core.List.{List, [], _∷_}
 use lib.ListN.{length}
 use Rattle.rules.specs.definitions.Formula.{Formula, bound-by, universals}
 use Rattle.rules.specs.definitions.Formula.Quant.{exists}
-use Rattle.rules.specs.definitions.Lines.{Row, clause-at, column, root-at}
-use Rattle.rules.specs.definitions.Named.{universal-at, Left-in}
+use Rattle.rules.specs.definitions.Lines.{Row, Rules, clause-at, column, root-at}
+use Rattle.rules.specs.definitions.Named.{universal-at}
 use lib.Dec.{eqb}
 
 -- ---- the map at a node of a column: a leaf alone, or the merge of the maps at the branch's ends
@@ -53,5 +53,5 @@ paper-lines F rows i = record {
 }
 
 -- the existential variables left of u
-abbrev pub Left-existential : Formula → ℕ → ℕ → Type 0
-Left-existential F u x = (bound-by exists (F .prefix) x ≡ true) × Left-in F x u
+abbrev pub Left-existential : Rules → Formula → ℕ → ℕ → Type 0
+Left-existential R F u x = (bound-by exists (F .prefix) x ≡ true) × (R .left x u ≡ true)

@@ -1,25 +1,22 @@
 -- Demand 2: which refusal is given, by stages, each where all before it passes.
 use mathlib.Core.Path.{_≡_}
-use mathlib.Core.Bool.{true, false, not, _||_}
+use mathlib.Core.Bool.{true, false}
 use mathlib.Core.List.{List, [], _∷_, _++_, List·Memᴰ}
-use Prim.Native.Nat.{ℕ, suc, _+_, _*_}
-use lib.Dec.{eqb, ltb}
-use lib.ListN.{length, take}
+use Prim.Native.Nat.{ℕ, suc}
+use lib.ListN.{length}
 use Rattle.rules.specs.declared.Line.{Line}
 use Rattle.rules.specs.declared.Decoded.the-variants as D
-use Rattle.rules.specs.definitions.Layout.{head-bytes, record-bytes}
-use Rattle.rules.specs.definitions.Limits.{lines-most}
-use Rattle.rules.specs.definitions.Refusals.{bad-mark, bad-length, bad-line-count, not-empty}
-use Rattle.rules.specs.definitions.Faults.{Fault, fault}
+use Rattle.rules.specs.definitions.Refusals.{not-empty}
+use Rattle.rules.specs.definitions.Faults.{Fault}
 use Rattle.rules.specs.definitions.Faults.Found.{passes}
-use Rattle.rules.specs.definitions.Formula.{Formula, universals}
-use Rattle.rules.specs.definitions.Text.{uncommented, Token, spelled}
+use Rattle.rules.specs.definitions.Formula.{Formula}
+use Rattle.rules.specs.definitions.Text.{uncommented, Token}
 use Rattle.rules.specs.definitions.Reading.{State, begin, step, end-at, tokens-of, read}
 use Rattle.rules.specs.definitions.Reading.Next.{stop, go}
 use Rattle.rules.specs.definitions.Reading.Reading.{unread, formula}
-use Rattle.rules.specs.definitions.File.{Form, merge-proof, pair-at, announced, head-fault, records, decoded}
-use Rattle.rules.specs.definitions.Lines.{Row, Rules, house, line-faults}
-use Rattle.rules.specs.definitions.Checking.{all-lines, last-empty, Checked}
+use Rattle.rules.specs.definitions.File.{head-faults, head-fault, records}
+use Rattle.rules.specs.definitions.Lines.{Row, Rules, line-faults}
+use Rattle.rules.specs.definitions.Checking.{all-lines, Checked, Manner, rules-of, lines-of}
 use Rattle.rules.specs.definitions.Checking.Passed.{passed}
 use Rattle.rules.specs.definitions.Checking.Checked.{rejected, accepted}
 
@@ -47,20 +44,11 @@ pub data Stops (n : ℕ) (st : State) (ts : List Token) (m at : ℕ) : Type 0 wh
       → step mid (t .bytes) ≡ stop m → t .at ≡ at → Stops n st ts m at
   ending : (last : State) → Steps st ts last → end-at (last .place) n last ≡ unread m at → Stops n st ts m at
 
--- ---- the file's head
--- the head's tests in order, for a formula with k universals
-abbrev pub head-faults : Form → ℕ → List ℕ → List Fault
-head-faults form k s =
-    fault bad-mark (ltb (length s) head-bytes || (not (spelled (form .mark) (take 3 s)) || not (eqb (pair-at s 3) (form .version))))
-    ∷ fault bad-length (not (eqb (length s) (head-bytes + form .between k + record-bytes * announced s)))
-    ∷ fault bad-line-count (ltb (announced s) 1 || ltb lines-most (announced s))
-    ∷ []
-
 -- ---- lines
 -- the record after the rows is refused: it is no line, or its line breaks a rule, this one first
 pub data Refuses (R : Rules) (F : Formula) (rows : List Row) (bytes : List ℕ) (m v : ℕ) : Type 0 where
-  no-line : decoded bytes ≡ D.Refused m → v ≡ 0 → Refuses R F rows bytes m v
-  broken-rule : (l : Line) → decoded bytes ≡ D.Line l → First (line-faults R F rows (suc (length rows)) l) m v → Refuses R F rows bytes m v
+  no-line : R .decode bytes ≡ D.Refused m → v ≡ 0 → Refuses R F rows bytes m v
+  broken-rule : (l : Line) → R .decode bytes ≡ D.Line l → First (line-faults R F rows (suc (length rows)) l) m v → Refuses R F rows bytes m v
 
 -- the records before one all pass, and that one is refused, at its own line i
 pub record First-line (R : Rules) (F : Formula) (rs : List (List ℕ)) (m i v : ℕ) : Type 0 where
@@ -74,15 +62,20 @@ pub record First-line (R : Rules) (F : Formula) (rs : List (List ℕ)) (m i v : 
   pub refuses : Refuses R F rows bytes m v
 
 -- ---- checking a text with a proof, by stages: each refusal where all stages before pass
-pub data Verdict (text proof : List ℕ) : Checked → Type 0 where
-  text-refused : {m at : ℕ} → Stops (length text) begin (tokens-of (uncommented false text 0)) m at → Verdict text proof (rejected m at 0)
-  head-refused : {m v : ℕ} (F : Formula) → read text ≡ formula F → First (head-faults merge-proof (length (universals (F .prefix))) proof) m v
-      → Verdict text proof (rejected m 0 v)
-  line-refused : {m i v : ℕ} (F : Formula) → read text ≡ formula F → head-fault merge-proof (length (universals (F .prefix))) proof ≡ passes
-      → First-line (house F) F (records merge-proof (length (universals (F .prefix))) proof) m i v → Verdict text proof (rejected m i v)
-  last-refused : (F : Formula) (rows : List Row) → read text ≡ formula F → head-fault merge-proof (length (universals (F .prefix))) proof ≡ passes
-      → all-lines (house F) F (records merge-proof (length (universals (F .prefix))) proof) ≡ passed rows → last-empty rows ≡ false
-      → Verdict text proof (rejected not-empty (length rows) 0)
-  accepts : (F : Formula) (rows : List Row) → read text ≡ formula F → head-fault merge-proof (length (universals (F .prefix))) proof ≡ passes
-      → all-lines (house F) F (records merge-proof (length (universals (F .prefix))) proof) ≡ passed rows → last-empty rows ≡ true
-      → Verdict text proof (accepted F rows)
+-- the text is read, the head passes
+pub record Begun (m : Manner) (text proof : List ℕ) (F : Formula) : Type 0 where
+  pub given : read text ≡ formula F
+  pub head : head-fault (m .form) F proof ≡ passes
+
+-- and all lines pass
+pub record All-pass (m : Manner) (text proof : List ℕ) (F : Formula) (rows : List Row) : Type 0 where
+  pub begun : Begun m text proof F
+  pub lines : lines-of m F proof ≡ passed rows
+
+pub data Verdict (m : Manner) (text proof : List ℕ) : Checked → Type 0 where
+  text-refused : {n at : ℕ} → Stops (length text) begin (tokens-of (uncommented false text 0)) n at → Verdict m text proof (rejected n at 0)
+  head-refused : {n v : ℕ} (F : Formula) → read text ≡ formula F → First (head-faults (m .form) F proof) n v → Verdict m text proof (rejected n 0 v)
+  line-refused : {n i v : ℕ} (F : Formula) → Begun m text proof F → First-line (rules-of m F proof) F (records (m .form) F proof) n i v
+      → Verdict m text proof (rejected n i v)
+  last-refused : (F : Formula) (rows : List Row) → All-pass m text proof F rows → m .asks rows ≡ false → Verdict m text proof (rejected not-empty (length rows) 0)
+  accepts : (F : Formula) (rows : List Row) → All-pass m text proof F rows → m .asks rows ≡ true → Verdict m text proof (accepted F rows)

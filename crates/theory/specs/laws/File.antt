@@ -18,7 +18,8 @@ use Rattle.rules.specs.definitions.Refusals.{bad-mark, bad-length, bad-line-cou
 use Rattle.rules.specs.definitions.Text.{spelled}
 use Rattle.rules.specs.definitions.Faults.{Fault, fault, first-of}
 use Rattle.rules.specs.definitions.Faults.Found.{passes, fails}
-use Rattle.rules.specs.definitions.File.{Form, pair-at, bare-tail, resolution-at, decoded, pair-bytes, encoded, encoded-all, file-of, split, records, announced, head-fault}
+use Rattle.rules.specs.definitions.Formula.{Formula, universals}
+use Rattle.rules.specs.definitions.File.{Version, Form, pair-at, bare-tail, resolution-at, decoded, pair-bytes, encoded, encoded-all, file-of, split, records, announced, records-at, head-fault}
 use Rattle.rules.specs.statements.Proves.{All-bytes}
 
 pub no-bytes : All-bytes []
@@ -219,52 +220,62 @@ unfolding encoded-all
 all-encoded-bytes [] d h = no-bytes
 all-encoded-bytes (l ∷ ls) d h = both-bytes (encoded l) (encoded-all ls) (encoded-bytes l (h 0 (omega arith))) (all-encoded-bytes ls d (λ i b. h (suc i) (omega (arith, b))))
 
--- ---- the file of given lines, for a form whose mark has three bytes and what it has between head and records
-module _ (x y z version : ℕ) (width : ℕ → ℕ) (between : List ℕ) (ls : List Line) (k : ℕ) (wide : length between ≡ width k) where
+-- ---- the file of given lines, for a form whose mark has three bytes, and what its version has between head and records
+module _ (x y z version : ℕ) (known : ℕ → Bool) (versions : ℕ → Version) (between : List ℕ) (ls : List Line) (F : Formula)
+    (wide : length between ≡ versions version .between (length (universals (F .prefix)))) where
   abbrev form : Form
-  form = record { mark = x ∷ y ∷ z ∷ []; version = version; between = width }
+  form = record { mark = x ∷ y ∷ z ∷ []; known = known; version = versions }
 
   abbrev file : List ℕ
-  file = file-of form between ls
+  file = file-of (x ∷ y ∷ z ∷ []) version between ls
 
-  -- it announces its lines
+  -- it announces its version and its lines
+  pub version-file : pair-at file 3 ≡ version
+  unfolding file-of pair-at
+  version-file = pair-back version
+
   pub announced-file : announced file ≡ length ls
   unfolding file-of pair-at
   announced-file = pair-back (length ls)
 
-  length-file : length file ≡ head-bytes + width k + record-bytes * length ls
+  at-records : records-at form F file ≡ head-bytes + length between
+  at-records = ap (λ (n : ℕ). head-bytes + versions n .between (length (universals (F .prefix)))) version-file ∙ ap (λ (w : ℕ). head-bytes + w) (sym wide)
+
+  length-file : length file ≡ head-bytes + length between + record-bytes * length ls
   unfolding file-of
   length-file = omega (arith, length-append between (encoded-all ls), length-encoded-all ls)
 
   -- its records are the bytes of its lines
-  pub records-file : records form k file ≡ map encoded ls
+  pub records-file : records form F file ≡ map encoded ls
   unfolding file-of records
   records-file =
-      ap (λ (n : ℕ). split n (drop (head-bytes + width k) file)) announced-file
-      ∙ ap (split (length ls)) (sym (drop-drop (width k) head-bytes file) ∙ drop-at between (encoded-all ls) (width k) wide)
+      ap (λ (n : ℕ). split n (drop (records-at form F file) file)) announced-file
+      ∙ ap (λ (w : ℕ). split (length ls) (drop w file)) at-records
+      ∙ ap (split (length ls)) (sym (drop-drop (length between) head-bytes file) ∙ drop-at between (encoded-all ls) (length between) refl)
       ∙ split-encoded ls
 
-  unmarked : (ltb (length file) head-bytes || (not (spelled (form .mark) (take 3 file)) || not (eqb (pair-at file 3) version))) ≡ false
-  unfolding file-of pair-at
-  unmarked =
-      rw (le-ltb (length file) head-bytes (omega (arith, length-file)), spelled-self (x ∷ y ∷ z ∷ []), eq-eqb _ _ (pair-back version))
+  unmarked : known version ≡ true → (ltb (length file) head-bytes || (not (spelled (form .mark) (take 3 file)) || not (known (pair-at file 3)))) ≡ false
+  unfolding file-of
+  unmarked k = rw (le-ltb (length file) head-bytes (omega (arith, length-file)), spelled-self (x ∷ y ∷ z ∷ []), version-file, k)
 
-  fitting : not (eqb (length file) (head-bytes + width k + record-bytes * announced file)) ≡ false
-  fitting = rw (announced-file, eq-eqb _ _ length-file)
+  fitting : not (eqb (length file) (records-at form F file + record-bytes * announced file)) ≡ false
+  fitting = rw (announced-file, at-records, eq-eqb _ _ length-file)
 
   counted : 1 ≤ length ls → length ls ≤ lines-most → (ltb (announced file) 1 || ltb lines-most (announced file)) ≡ false
   counted some few = rw (announced-file, le-ltb (length ls) 1 some, le-ltb lines-most (length ls) few)
 
-  -- its head passes, with 1 to 1,024 lines
-  pub head-file : 1 ≤ length ls → length ls ≤ lines-most → head-fault form k file ≡ passes
+  -- its head passes, with a known version whose own tests pass, and 1 to 1,024 lines
+  pub head-file : known version ≡ true → first-of (versions version .faults F file) ≡ passes → 1 ≤ length ls → length ls ≤ lines-most → head-fault form F file ≡ passes
   unfolding head-fault first-of
-  head-file some few =
-      first-passed bad-mark _ (fault bad-length (not (eqb (length file) (head-bytes + width k + record-bytes * announced file))) ∷ last) unmarked
+  head-file k own some few =
+      first-passed bad-mark _ (fault bad-length (not (eqb (length file) (records-at form F file + record-bytes * announced file))) ∷ last) (unmarked k)
       ∙ first-passed bad-length _ last fitting
-      ∙ first-passed bad-line-count _ [] (counted some few)
+      ∙ first-passed bad-line-count _ (versions (pair-at file 3) .faults F file) (counted some few)
+      ∙ ap (λ (n : ℕ). first-of (versions n .faults F file)) version-file
+      ∙ own
     where
       last : List Fault
-      last = fault bad-line-count (ltb (announced file) 1 || ltb lines-most (announced file)) ∷ []
+      last = fault bad-line-count (ltb (announced file) 1 || ltb lines-most (announced file)) ∷ versions (pair-at file 3) .faults F file
 
   -- it is a file of bytes where its mark is, its lines fit, and what stands between is
   pub bytes-file : x < 256 → y < 256 → z < 256 → version < 65536 → All-bytes between → length ls < 65536

@@ -25,7 +25,6 @@ use Rattle.rules.specs.definitions.Faults.{Fault, Found, first-of}
 use Rattle.rules.specs.definitions.Faults.Found.{passes, fails}
 use Rattle.rules.specs.definitions.Formula.{Clause, Formula, bound-by, universals, existentials, no-literal, resolvent}
 use Rattle.rules.specs.definitions.Formula.Quant.{exists}
-use Rattle.rules.specs.definitions.File.{decoded}
 use Rattle.rules.specs.definitions.Maps.{Column, star?}
 use Rattle.rules.specs.statements.Sound.{Falling, Positive, Sound}
 use Rattle.theory.specs.laws.Maps.{sound-from, branch≢none, leaf≢none, leaf≢branch}
@@ -534,11 +533,11 @@ decoded-follows R F rows (D.Refused n) row h = absurd (refused≢made h)
 
 -- a record that makes a row is a line that follows
 pub next-follows : (R : Rules) (F : Formula) (rows : List Row) (bytes : List ℕ) (row : Row) → next-line R F rows bytes ≡ made row
-    → (l : Line) × (decoded bytes ≡ D.Line l) × Follows R F rows (suc (length rows)) l row
+    → (l : Line) × (R .decode bytes ≡ D.Line l) × Follows R F rows (suc (length rows)) l row
 unfolding next-line
-next-follows R F rows bytes row h = decoded-follows R F rows (decoded bytes) row h
+next-follows R F rows bytes row h = decoded-follows R F rows (R .decode bytes) row h
 
-pub follows-next : (R : Rules) (F : Formula) (rows : List Row) (bytes : List ℕ) (row : Row) (l : Line) → decoded bytes ≡ D.Line l
+pub follows-next : (R : Rules) (F : Formula) (rows : List Row) (bytes : List ℕ) (row : Row) (l : Line) → R .decode bytes ≡ D.Line l
     → Follows R F rows (suc (length rows)) l row → next-line R F rows bytes ≡ made row
 unfolding next-line
 follows-next R F rows bytes row l e f = rw e (line-follows R F rows (suc (length rows)) l row .1 f)

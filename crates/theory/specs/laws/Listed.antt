@@ -1,12 +1,12 @@
 -- A refusal's number is one of the list: 3 to 10 from the text, 11 to 13 from the head, 21 to 31 from a line, 32 from the last clause.
-use mathlib.Core.Path.{_≡_, refl, subst}
-use mathlib.Core.Bool.{Bool, true, false, cond, not, _||_}
+use mathlib.Core.Path.{_≡_, refl, subst, sym}
+use mathlib.Core.Bool.{Bool, true, false, cond, not}
 use mathlib.Core.List.{List, [], _∷_, _++_}
-use Prim.Native.Nat.{ℕ, zero, suc, _+_, _*_, _≤_}
+use Prim.Native.Nat.{ℕ, zero, suc, _≤_}
 use native.Mathlib.Omega.{arith}
 use lib.Dec.{ltb, eqb}
 use lib.IntN.{pos, negsuc}
-use lib.ListN.{length, getD, take}
+use lib.ListN.{length, getD}
 use Rattle.rules.specs.declared.Line.{Line}
 use Rattle.rules.specs.declared.Line.the-variants as L
 use Rattle.rules.specs.declared.Decoded.{Decoded}
@@ -14,9 +14,8 @@ use Rattle.rules.specs.declared.Decoded.the-variants as D
 use Rattle.rules.specs.declared.Resolution.{Resolution}
 use Rattle.rules.specs.definitions.Faults.{Fault, fault, Found, first-of}
 use Rattle.rules.specs.definitions.Faults.Found.{passes, fails}
-use Rattle.rules.specs.definitions.Limits.{variables-most, clauses-most, lines-most}
-use Rattle.rules.specs.definitions.Layout.{head-bytes, record-bytes}
-use Rattle.rules.specs.definitions.Refusals.{header-limit, no-variable, bound-twice, too-many-universals, not-bound, both-ways, clause-count, bad-mark, bad-length, bad-line-count, bad-kind, axiom-tail, not-left, no-select, not-empty}
+use Rattle.rules.specs.definitions.Limits.{variables-most, clauses-most}
+use Rattle.rules.specs.definitions.Refusals.{header-limit, no-variable, bound-twice, too-many-universals, not-bound, both-ways, clause-count, bad-kind, axiom-tail, not-left, no-select, not-empty}
 use Rattle.rules.specs.definitions.Formula.{Quant, Clause, Formula, Literal, universals, bound, has-opposite, with-literal, no-literal}
 use Rattle.rules.specs.definitions.Formula.Quant.{exists, forall}
 use Rattle.rules.specs.definitions.Text.{Token, Number, number-of, spelled, uncommented}
@@ -25,10 +24,10 @@ use Rattle.rules.specs.definitions.Reading.{Place, State, Next, unless, expect,
 use Rattle.rules.specs.definitions.Reading.Place.{at-mark, at-cnf, at-variables, at-count, at-block, in-block, at-clause, in-clause}
 use Rattle.rules.specs.definitions.Reading.Next.{stop, go}
 use Rattle.rules.specs.definitions.Reading.Reading.{unread, formula}
-use Rattle.rules.specs.definitions.File.{Form, merge-proof, head-fault, records, decoded, bare-tail, pair-at, announced, resolution-at}
-use Rattle.rules.specs.definitions.Lines.{Row, Rules, house, Made, each, unless-found, line-faults, line-row, line-made, decoded-made, next-line, map-fault, in-set, selected, defined}
+use Rattle.rules.specs.definitions.File.{Form, merge-proof, version-in, head-faults, head-fault, records, decoded, bare-tail, pair-at, resolution-at}
+use Rattle.rules.specs.definitions.Lines.{Row, Rules, Made, each, unless-found, line-faults, line-row, line-made, decoded-made, next-line, map-fault, in-set, selected, defined}
 use Rattle.rules.specs.definitions.Lines.Made.{made, refused}
-use Rattle.rules.specs.definitions.Checking.{Passed, lines-from, all-lines, Checked, refutation, last-empty, when-passed, proof-lines, proof-checked, checked-by, checked}
+use Rattle.rules.specs.definitions.Checking.{Passed, lines-from, all-lines, Checked, Manner, base, rules-of, lines-of, last-checked, when-passed, proof-checked, checked-by, checked}
 use Rattle.rules.specs.definitions.Checking.Passed.{passed, stopped}
 use Rattle.rules.specs.definitions.Checking.Checked.{rejected, accepted}
 
@@ -167,17 +166,11 @@ pub text-listed : (s : List ℕ) (n at : ℕ) → read s ≡ unread n at → Wit
 unfolding read
 text-listed s n at e = subst Read-within e (from-within (length s) begin (tokens-of (uncommented false s 0)))
 
--- ---- the head
-pub head-listed : (form : Form) (k : ℕ) (s : List ℕ) (n v : ℕ) → head-fault form k s ≡ fails n v → Within 11 13 n
+-- ---- the head, with a version that has no tests of its own
+pub head-listed : (form : Form) (F : Formula) (s : List ℕ) → version-in form s .faults F s ≡ [] → (n v : ℕ) → head-fault form F s ≡ fails n v → Within 11 13 n
 unfolding head-fault
-head-listed form k s n v e = subst (Found-within 11 13) e (first-within 11 13 fs (omega arith, (omega arith, (omega arith, tt))))
-  where
-    fs : List Fault
-    fs =
-        fault bad-mark (ltb (length s) head-bytes || (not (spelled (form .mark) (take 3 s)) || not (eqb (pair-at s 3) (form .version))))
-        ∷ fault bad-length (not (eqb (length s) (head-bytes + form .between k + record-bytes * announced s)))
-        ∷ fault bad-line-count (ltb (announced s) 1 || ltb lines-most (announced s))
-        ∷ []
+head-listed form F s none n v e =
+    subst (Found-within 11 13) e (first-within 11 13 (head-faults form F s) (omega arith, (omega arith, (omega arith, subst (All-within 11 13) (sym none) tt))))
 
 -- ---- a line
 abbrev Made-within : Made → Type 0
@@ -221,11 +214,11 @@ made-within passes row w = tt
 made-within (fails n v) row w = w
 
 -- a record that is no line is refused with 21 or 22
-abbrev Decoded-within : Decoded → Type 0
+abbrev pub Decoded-within : Decoded → Type 0
 Decoded-within (D.Line l) = Unit {0}
 Decoded-within (D.Refused n) = Within 21 31 n
 
-decoded-within : (s : List ℕ) → Decoded-within (decoded s)
+pub decoded-within : (s : List ℕ) → Decoded-within (decoded s)
 unfolding decoded
 decoded-within s = by (eqb (getD s 0 0) 1) (bare-tail s) (eqb (getD s 0 0) 2)
   where
@@ -240,9 +233,10 @@ decoded-within s = by (eqb (getD s 0 0) 1) (bare-tail s) (eqb (getD s 0 0) 2)
     by false b true = tt
     by false b false = omega arith
 
-line-within : (R : Rules) (F : Formula) (rows : List Row) (bytes : List ℕ) → Made-within (next-line R F rows bytes)
+-- a line, where decoding keeps to the list
+line-within : (R : Rules) → ((s : List ℕ) → Decoded-within (R .decode s)) → (F : Formula) (rows : List Row) (bytes : List ℕ) → Made-within (next-line R F rows bytes)
 unfolding next-line line-made
-line-within R F rows bytes = by (decoded bytes) (decoded-within bytes)
+line-within R decodes F rows bytes = by (R .decode bytes) (decodes bytes)
   where
     i : ℕ
     i = suc (length rows)
@@ -256,52 +250,48 @@ abbrev Passed-within : Passed → Type 0
 Passed-within (passed rows) = Unit {0}
 Passed-within (stopped n i v) = Within 21 31 n
 
-lines-within : (R : Rules) (F : Formula) (rows : List Row) (rs : List (List ℕ)) → Passed-within (lines-from R F rows rs)
+lines-within : (R : Rules) → ((s : List ℕ) → Decoded-within (R .decode s)) → (F : Formula) (rows : List Row) (rs : List (List ℕ)) → Passed-within (lines-from R F rows rs)
 unfolding lines-from
-lines-within R F rows [] = tt
-lines-within R F rows (r ∷ rs) = by (next-line R F rows r) (line-within R F rows r) (λ rows′. lines-within R F rows′ rs)
+lines-within R decodes F rows [] = tt
+lines-within R decodes F rows (r ∷ rs) = by (next-line R F rows r) (line-within R decodes F rows r) (λ rows′. lines-within R decodes F rows′ rs)
   where
     by : (m : Made) → Made-within m → ((rows′ : List Row) → Passed-within (lines-from R F rows′ rs))
         → Passed-within (elim m [ made row ↦ lines-from R F (rows ++ (row ∷ [])) rs | refused n v ↦ stopped n (suc (length rows)) v ])
     by (made row) w ih = ih (rows ++ (row ∷ []))
     by (refused n v) w ih = w
 
-pub lines-listed : (R : Rules) (F : Formula) (rs : List (List ℕ)) (n i v : ℕ) → all-lines R F rs ≡ stopped n i v → Within 21 31 n
+pub lines-listed : (R : Rules) → ((s : List ℕ) → Decoded-within (R .decode s)) → (F : Formula) (rs : List (List ℕ)) (n i v : ℕ) → all-lines R F rs ≡ stopped n i v → Within 21 31 n
 unfolding all-lines
-lines-listed R F rs n i v e = subst Passed-within e (lines-within R F [] rs)
+lines-listed R decodes F rs n i v e = subst Passed-within e (lines-within R decodes F [] rs)
 
 -- ---- checking
 abbrev Checked-within : Checked → Type 0
 Checked-within (rejected n at v) = Within 3 32 n
 Checked-within (accepted F rows) = Unit {0}
 
-last-within : (F : Formula) (rows : List Row) → Checked-within (refutation F rows)
-last-within F rows = by (last-empty rows)
+last-within : (m : Manner) (F : Formula) (rows : List Row) → Checked-within (last-checked m F rows)
+last-within m F rows = by (m .asks rows)
   where
     by : (b : Bool) → Checked-within (elim b [ true ↦ accepted F rows | false ↦ rejected not-empty (length rows) 0 ])
     by true = tt
     by false = omega arith
 
-passed-within : (F : Formula) (p : Passed) → Passed-within p → Checked-within (when-passed refutation F p)
-passed-within F (passed rows) w = last-within F rows
-passed-within F (stopped n i v) w = omega arith
+passed-within : (m : Manner) (F : Formula) (p : Passed) → Passed-within p → Checked-within (when-passed m F p)
+passed-within m F (passed rows) w = last-within m F rows
+passed-within m F (stopped n i v) w = omega arith
 
-proof-within : (F : Formula) (proof : List ℕ) → Checked-within (proof-checked house refutation merge-proof F proof)
+proof-within : (F : Formula) (proof : List ℕ) → Checked-within (proof-checked base F proof)
 unfolding all-lines
-proof-within F proof = by (head-fault merge-proof k proof) refl
+proof-within F proof = by (head-fault merge-proof F proof) refl
   where
-    k : ℕ
-    k = length (universals (F .prefix))
-
-    by : (f : Found) → head-fault merge-proof (length (universals (F .prefix))) proof ≡ f
-        → Checked-within (elim f [ passes ↦ proof-lines house refutation merge-proof F proof | fails n v ↦ rejected n 0 v ])
-    by passes e = passed-within F (lines-from (house F) F [] (records merge-proof k proof)) (lines-within (house F) F [] (records merge-proof k proof))
-    by (fails n v) e = omega (arith, head-listed merge-proof k proof n v e)
+    by : (f : Found) → head-fault merge-proof F proof ≡ f → Checked-within (elim f [ passes ↦ when-passed base F (lines-of base F proof) | fails n v ↦ rejected n 0 v ])
+    by passes e = passed-within base F (lines-of base F proof) (lines-within (rules-of base F proof) decoded-within F [] (records merge-proof F proof))
+    by (fails n v) e = omega (arith, head-listed merge-proof F proof refl n v e)
 
 pub check-listed : (text proof : List ℕ) (n at v : ℕ) → checked text proof ≡ rejected n at v → Within 3 32 n
 unfolding checked-by
 check-listed text proof n at v e = subst Checked-within e (by (read text) refl)
   where
-    by : (r : Reading) → read text ≡ r → Checked-within (elim r [ unread k p ↦ rejected k p 0 | formula F ↦ proof-checked house refutation merge-proof F proof ])
+    by : (r : Reading) → read text ≡ r → Checked-within (elim r [ unread k p ↦ rejected k p 0 | formula F ↦ proof-checked base F proof ])
     by (unread k p) f = omega (arith, text-listed text k p f)
     by (formula F) f = proof-within F proof

@@ -1,9 +1,9 @@
 -- The last maps of an accepted proof are a countermodel, so that its formula is false by the ordinary reading of its prefix.
-use mathlib.Core.Path.{_≡_, refl, ap, sym, _∙_, subst}
+use mathlib.Core.Path.{_≡_, refl, ap, sym, _∙_}
 use mathlib.Core.Bool.{Bool, true, false, true≢false}
 use mathlib.Core.List.{List, [], _∷_, List·Memᴰ}
 use mathlib.Core.Logic.{inl, inr, by-cases}
-use Prim.Native.Nat.{ℕ, suc, _+_, _≤_, _<_}
+use Prim.Native.Nat.{ℕ, suc, _≤_, _<_}
 use native.Mathlib.Omega.{arith}
 use native.Mathlib.Decide.{ℕ-discrete}
 use lib.Dec.{ltb}
@@ -11,33 +11,33 @@ use lib.ListN.{length, getD, drop, length-drop}
 use lib.Seq.{drop-cons}
 use borrow.Author.Tests.{eq-eqb, ne-eqb, ltb-false}
 use Rattle.rules.specs.declared.Node.the-variants.{Branch}
-use Rattle.rules.specs.definitions.Layout.{head-bytes}
 use Rattle.rules.specs.definitions.Limits.{lines-most}
-use Rattle.rules.specs.definitions.Faults.{Fault, Found, first-of}
-use Rattle.rules.specs.definitions.Faults.Found.{passes, fails}
+use Rattle.rules.specs.definitions.Faults.{Fault, first-of}
+use Rattle.rules.specs.definitions.Faults.Found.{passes}
 use Rattle.rules.specs.definitions.Formula.{Quant, Bound, Clause, Formula, Assignment, Satisfies, with-value, Choice, Holds, False, bound-by, universals, left-of}
 use Rattle.rules.specs.definitions.Formula.Quant.{exists, forall}
 use Rattle.theory.specs.laws.Formula.{bound-by-place, place-bound-by, bound-universal, left-order, empty-clause-plain, empty-clause-negated}
-use Rattle.rules.specs.definitions.Reading.{Reading, read}
-use Rattle.rules.specs.definitions.Reading.Reading.{unread, formula}
+use Rattle.rules.specs.definitions.Reading.{read}
+use Rattle.rules.specs.definitions.Reading.Reading.{formula}
 use Rattle.theory.specs.laws.Reading.{read-proper}
-use Rattle.rules.specs.definitions.File.{Form, merge-proof, announced, head-fault, records}
+use Rattle.rules.specs.definitions.File.{Form, merge-proof, announced, records-at, head-fault, records}
 use Rattle.theory.specs.laws.File.{length-split}
-use Rattle.rules.specs.definitions.Maps.{value-of, as-bool, Reached}
+use Rattle.rules.specs.definitions.Maps.{Column, value-of, as-bool, Reached}
 use Rattle.rules.specs.statements.Sound.{Sound}
 use Rattle.theory.specs.laws.Maps.{walk-agree, reached-le, reached-positive}
 use Rattle.theory.specs.laws.Comparing.{isomorphic-plays, test-decides}
-use Rattle.rules.specs.definitions.Lines.{Row, clause-at, column, Rules, house}
-use Rattle.rules.specs.definitions.Checking.{Passed, all-lines, last-empty, Checked, refutation, when-passed, proof-checked, checked-by, checked}
-use Rattle.rules.specs.definitions.Checking.Passed.{passed, stopped}
-use Rattle.rules.specs.definitions.Checking.Checked.{rejected, accepted}
+use Rattle.rules.specs.definitions.Lines.{Row, clause-at, column, Rules, strict}
+use Rattle.rules.specs.definitions.Checking.{last-empty, Manner, refuting, rules-of, checked-by}
+use Rattle.rules.specs.definitions.Checking.Checked.{accepted}
 use Rattle.rules.specs.statements.Proper.{var-at, kind-at, nowhere, Distinct, Proper}
 use Rattle.rules.specs.statements.Good.{Good}
 use Rattle.theory.specs.laws.Lines.{passes-cons, neither, good-derived, all-derived, column-branch, root-sound}
 use Rattle.rules.specs.statements.Follows.{Derived}
 use Rattle.rules.specs.statements.Plays.{played, line-plays, Plays-alike}
 use Rattle.theory.specs.theorems.Strategy.{played-universal, played-other, line-wins}
-use Rattle.rules.specs.statements.Countermodel.{last-root, Countermodel, Strategy, Looks-left, Keeps-to, All-pass}
+use Rattle.rules.specs.statements.Countermodel.{last-root, Countermodel, Strategy, Looks-left, Keeps-to}
+use Rattle.rules.specs.statements.Verdict.{All-pass}
+use Rattle.theory.specs.theorems.FirstFault.{accepted-passes}
 
 -- rows that all pass, the last clause empty
 pub countermodel : (R : Rules) (F : Formula) → Proper F → Plays-alike (R .ground) → (rows : List Row) → Derived R F rows → 1 ≤ length rows → last-empty rows ≡ true
@@ -188,117 +188,76 @@ countermodel-false F proper rows M s = prefix-false Q (F .matrix) h (proper .dis
         moved c (v, inl (p, q)) = (v, inl (p, sym (same v (bound-by forall Q v) refl) ∙ q))
         moved c (v, inr (p, q)) = (v, inr (p, sym (same v (bound-by forall Q v) refl) ∙ q))
 
--- ---- the house's third ground
-pub house-alike : (F : Formula) → Plays-alike (house F .ground)
-house-alike F T r t S U hr ht e s = isomorphic-plays T r T t (S .falling) (test-decides T r T t S U hr ht .0 e) (U .falling) s
+-- ---- 01's third ground
+pub strict-alike : Plays-alike strict
+strict-alike T r t S U hr ht e s = isomorphic-plays T r T t (S .falling) (test-decides T r T t S U hr ht .0 e) (U .falling) s
 
-rejected≢accepted : {n at v : ℕ} {F : Formula} {rows : List Row} → rejected n at v ≡ accepted F rows → ⊥
-rejected≢accepted e = let z : _≡_ {A = ℕ} 0 1 = cc in omega arith
+third-passes : (f g h : Fault) (fs : List Fault) → first-of (f ∷ g ∷ h ∷ fs) ≡ passes → h .when ≡ false
+third-passes f g h fs e = passes-cons h fs .0 (passes-cons g (h ∷ fs) .0 (passes-cons f (g ∷ h ∷ fs) .0 e .1) .1) .0
 
--- an answer that accepts comes from rows that all pass
-pub accepted-stages : (rules : Formula → Rules) (last : Formula → List Row → Checked) (form : Form) (text proof : List ℕ) (F : Formula) (rows : List Row)
-    → checked-by rules last form text proof ≡ accepted F rows
-    → (G : Formula) × (made : List Row) × All-pass rules form text proof G made × (last G made ≡ accepted F rows)
-unfolding checked-by
-accepted-stages rules last form text proof F rows h = by-text (read text) refl
-  where
-    Stages : Type 0
-    Stages = (G : Formula) × (made : List Row) × All-pass rules form text proof G made × (last G made ≡ accepted F rows)
+module _ (form : Form) (F : Formula) (proof : List ℕ) (h : head-fault form F proof ≡ passes) where
+  announced-right : (1 ≤ announced proof) × (announced proof ≤ lines-most)
+  unfolding head-fault
+  announced-right =
+      let o = neither (ltb (announced proof) 1) (ltb lines-most (announced proof)) (third-passes _ _ _ _ h) in
+      (ltb-false (announced proof) 1 (o .0), ltb-false lines-most (announced proof) (o .1))
 
-    by-lines : (G : Formula) → read text ≡ formula G → head-fault form (length (universals (G .prefix))) proof ≡ passes
-        → (p : Passed) → all-lines (rules G) G (records form (length (universals (G .prefix))) proof) ≡ p → when-passed last G p ≡ accepted F rows → Stages
-    by-lines G t e (passed made) l g = (G, made, record { given = t; head = e; lines = l }, g)
-    by-lines G t e (stopped n i v) l g = absurd (rejected≢accepted g)
+  -- a head that passes announces a line, and no more lines than there may be
+  pub head-some : 1 ≤ length (records form F proof)
+  unfolding records
+  head-some = omega (arith, length-split (announced proof) (drop (records-at form F proof) proof), announced-right)
 
-    by-head : (G : Formula) → read text ≡ formula G → (f : Found) → head-fault form (length (universals (G .prefix))) proof ≡ f → proof-checked rules last form G proof ≡ accepted F rows → Stages
-    by-head G t passes e g = by-lines G t e (all-lines (rules G) G (records form (length (universals (G .prefix))) proof)) refl (rw (proof-checked, e) at g)
-    by-head G t (fails n v) e g = absurd (rejected≢accepted (rw (proof-checked, e) at g))
+  pub head-few : length (records form F proof) ≤ lines-most
+  unfolding records
+  head-few = omega (arith, length-split (announced proof) (drop (records-at form F proof) proof), announced-right)
 
-    by-text : (r : Reading) → read text ≡ r → Stages
-    by-text (unread n at) e = absurd (rejected≢accepted (rw (checked-by, e) at h))
-    by-text (formula G) e = by-head G e (head-fault form (length (universals (G .prefix))) proof) refl (rw (checked-by, e) at h)
+-- ---- rows that all pass
+module _ (m : Manner) (text proof : List ℕ) (F : Formula) (rows : List Row) (P : All-pass m text proof F rows) where
+  R : Rules
+  R = rules-of m F proof
 
--- checking's own last stage: the last clause is empty
-refutation-accepts : (G F : Formula) (made rows : List Row) → refutation G made ≡ accepted F rows → (last-empty made ≡ true) × (G ≡ F) × (made ≡ rows)
-refutation-accepts G F made rows h = by (last-empty made) refl
-  where
-    by : (t : Bool) → last-empty made ≡ t → (last-empty made ≡ true) × (G ≡ F) × (made ≡ rows)
-    by true e = let z : accepted G made ≡ accepted F rows = rw (refutation, e) at h in (e, (cc), (cc))
-    by false e = absurd (rejected≢accepted (rw (refutation, e) at h))
+  made : Derived (rules-of m F proof) F rows × (length rows ≡ length (records (m .form) F proof))
+  made = all-derived (rules-of m F proof) F (records (m .form) F proof) rows (P .lines)
 
-third-passes : (f g h : Fault) → first-of (f ∷ g ∷ h ∷ []) ≡ passes → h .when ≡ false
-third-passes f g h e = passes-cons h [] .0 (passes-cons g (h ∷ []) .0 (passes-cons f (g ∷ h ∷ []) .0 e .1) .1) .0
+  pub pass-proper : Proper F
+  pass-proper = read-proper text F (P .begun .given)
 
--- a head that passes announces a line
-pub head-some : (form : Form) (k : ℕ) (proof : List ℕ) → head-fault form k proof ≡ passes → 1 ≤ length (records form k proof)
-unfolding head-fault records
-head-some form k proof h =
-    omega (
-      arith,
-      length-split (announced proof) (drop (head-bytes + form .between k) proof),
-      ltb-false (announced proof) 1 (neither (ltb (announced proof) 1) (ltb lines-most (announced proof)) (third-passes _ _ _ h) .0),
-    )
+  -- they are derived, from 1 to 1,024
+  pub pass-derived : Derived (rules-of m F proof) F rows
+  pass-derived = made .0
 
--- and no more lines than there may be
-pub head-few : (form : Form) (k : ℕ) (proof : List ℕ) → head-fault form k proof ≡ passes → length (records form k proof) ≤ lines-most
-unfolding head-fault records
-head-few form k proof h =
-    omega (
-      arith,
-      length-split (announced proof) (drop (head-bytes + form .between k) proof),
-      ltb-false lines-most (announced proof) (neither (ltb (announced proof) 1) (ltb lines-most (announced proof)) (third-passes _ _ _ h) .1),
-    )
+  pub pass-lines : (1 ≤ length rows) × (length rows ≤ lines-most)
+  pass-lines = (omega (arith, made .1, head-some (m .form) F proof (P .begun .head)), omega (arith, made .1, head-few (m .form) F proof (P .begun .head)))
 
--- rows that all pass: derived, and at least one
-pub all-pass-derived : (rules : Formula → Rules) (form : Form) (text proof : List ℕ) (F : Formula) (rows : List Row) → All-pass rules form text proof F rows
-    → Derived (rules F) F rows × (1 ≤ length rows)
-all-pass-derived rules form text proof F rows P =
-    let k : ℕ = length (universals (F .prefix)) in
-    let d = all-derived (rules F) F (records form k proof) rows (P .lines) in
-    (d .0, omega (arith, d .1, head-some form k proof (P .head)))
+  -- they are good rows
+  pub pass-good : Good (rules-of m F proof) F rows
+  pass-good = good-derived (rules-of m F proof) F pass-proper rows pass-derived
 
--- ---- what checking accepts
-pub accepted-passes : (text proof : List ℕ) (F : Formula) (rows : List Row) → checked text proof ≡ accepted F rows
-    → All-pass house merge-proof text proof F rows × (last-empty rows ≡ true)
-accepted-passes text proof F rows h =
-    let s = accepted-stages house refutation merge-proof text proof F rows h in
-    let e = refutation-accepts (s .0) F (s .1) rows (s .3) in (
-      subst (λ (G : Formula). All-pass house merge-proof text proof G rows) (e .1) (subst (All-pass house merge-proof text proof (s .0)) (e .2) (s .2)),
-      subst (λ (made : List Row). last-empty made ≡ true) (e .2) (e .0),
-    )
+  -- settings that make a line's clause false lose by its maps
+  pub pass-wins : Plays-alike (m .ground) → (i : ℕ) → 1 ≤ i → i ≤ length rows → (s : Assignment) → (Satisfies s (clause-at rows i) → ⊥)
+      → (c : Clause) × List·Memᴰ c (F .matrix) × (Satisfies (played F rows i s) c → ⊥)
+  pass-wins alike = line-wins (rules-of m F proof) F pass-proper alike rows pass-derived
 
--- the rows of an accepted proof are good rows of a proper formula
-pub accepted-good : (text proof : List ℕ) (F : Formula) (rows : List Row) → checked text proof ≡ accepted F rows → Proper F × Good (house F) F rows
-accepted-good text proof F rows h =
-    let a = accepted-passes text proof F rows h in
-    let p = read-proper text F (a .0 .given) in
-    (p, good-derived (house F) F p rows (all-pass-derived house merge-proof text proof F rows (a .0) .0))
+  -- with an empty last clause, the last maps are a countermodel over the rules' own left
+  pub pass-countermodel : Plays-alike (m .ground) → last-empty rows ≡ true → Countermodel (rules-of m F proof .left) F rows
+  pass-countermodel alike empty = countermodel (rules-of m F proof) F pass-proper alike rows pass-derived (pass-lines .0) empty
 
--- an accepted proof has from 1 to 1,024 lines
-pub accepted-lines : (text proof : List ℕ) (F : Formula) (rows : List Row) → checked text proof ≡ accepted F rows → (1 ≤ length rows) × (length rows ≤ lines-most)
-accepted-lines text proof F rows h =
-    let P = accepted-passes text proof F rows h .0 in
-    let k : ℕ = length (universals (F .prefix)) in
-    let d = all-derived (house F) F (records merge-proof k proof) rows (P .lines) in
-    (omega (arith, d .1, head-some merge-proof k proof (P .head)), omega (arith, d .1, head-few merge-proof k proof (P .head)))
+-- the rows of an accepted proof are good rows of a proper formula, from 1 to 1,024
+pub accepted-good : (m : Manner) (text proof : List ℕ) (F : Formula) (rows : List Row) → checked-by m text proof ≡ accepted F rows → Proper F × Good (rules-of m F proof) F rows
+accepted-good m text proof F rows h = let a = accepted-passes m text proof F rows h in (pass-proper m text proof F rows (a .0), pass-good m text proof F rows (a .0))
 
--- the last maps of an accepted proof are a countermodel of the formula that was read
-pub accepted-wins : (text proof : List ℕ) (F : Formula) (rows : List Row) → checked text proof ≡ accepted F rows
-    → (read text ≡ formula F) × Countermodel (left-of (F .prefix)) F rows
-accepted-wins text proof F rows h =
-    let a = accepted-passes text proof F rows h in
-    let d = all-pass-derived house merge-proof text proof F rows (a .0) in
-    (a .0 .given, countermodel (house F) F (read-proper text F (a .0 .given)) (house-alike F) rows (d .0) (d .1) (a .1))
+pub accepted-lines : (m : Manner) (text proof : List ℕ) (F : Formula) (rows : List Row) → checked-by m text proof ≡ accepted F rows → (1 ≤ length rows) × (length rows ≤ lines-most)
+accepted-lines m text proof F rows h = pass-lines m text proof F rows (accepted-passes m text proof F rows h .0)
 
--- a text with a proof that checking accepts is a false formula
-pub accepted-false : (text proof : List ℕ) (F : Formula) (rows : List Row) → checked text proof ≡ accepted F rows → (read text ≡ formula F) × False F
-accepted-false text proof F rows h =
-    let w = accepted-wins text proof F rows h in (w .0, countermodel-false F (read-proper text F (w .0)) rows (w .1))
+-- ---- what checking for a refutation accepts
+module _ (ground : Column → ℕ → ℕ → Bool) (alike : Plays-alike ground) (text proof : List ℕ) (F : Formula) (rows : List Row) where
+  -- the last maps are a countermodel of the formula that was read
+  pub accepted-wins : (form : Form) → checked-by (refuting ground form) text proof ≡ accepted F rows
+      → (read text ≡ formula F) × Countermodel (rules-of (refuting ground form) F proof .left) F rows
+  accepted-wins form h =
+      let a = accepted-passes (refuting ground form) text proof F rows h in
+      (a .0 .begun .given, pass-countermodel (refuting ground form) text proof F rows (a .0) alike (a .1))
 
--- for every line of an accepted proof: settings that make its clause false lose by its maps
-pub accepted-line-wins : (text proof : List ℕ) (F : Formula) (rows : List Row) → checked text proof ≡ accepted F rows
-    → (i : ℕ) → 1 ≤ i → i ≤ length rows → (s : Assignment) → (Satisfies s (clause-at rows i) → ⊥)
-    → (c : Clause) × List·Memᴰ c (F .matrix) × (Satisfies (played F rows i s) c → ⊥)
-accepted-line-wins text proof F rows h =
-    let a = accepted-passes text proof F rows h in
-    line-wins (house F) F (read-proper text F (a .0 .given)) (house-alike F) rows (all-pass-derived house merge-proof text proof F rows (a .0) .0)
+  -- a text with a merge proof that is accepted is a false formula
+  pub accepted-false : checked-by (refuting ground merge-proof) text proof ≡ accepted F rows → (read text ≡ formula F) × False F
+  accepted-false h = let w = accepted-wins merge-proof h in (w .0, countermodel-false F (read-proper text F (w .0)) rows (w .1))

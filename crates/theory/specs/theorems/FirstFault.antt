@@ -11,22 +11,26 @@ use Rattle.rules.specs.declared.Decoded.{Decoded}
 use Rattle.rules.specs.declared.Decoded.the-variants as D
 use Rattle.rules.specs.definitions.Faults.{Fault, Found, first-of}
 use Rattle.rules.specs.definitions.Faults.Found.{passes, fails}
-use Rattle.rules.specs.definitions.Formula.{Formula, universals}
+use Rattle.rules.specs.definitions.Formula.{Formula}
 use Rattle.rules.specs.definitions.Text.{uncommented, Token}
 use Rattle.rules.specs.definitions.Reading.{State, begin, Next, step, Reading, read-from, tokens-of, read}
 use Rattle.rules.specs.definitions.Reading.Next.{stop, go}
 use Rattle.rules.specs.definitions.Reading.Reading.{unread, formula}
-use Rattle.rules.specs.definitions.File.{Form, merge-proof, head-fault, records, decoded}
-use Rattle.rules.specs.definitions.Lines.{Row, Rules, house, Made, unless-found, line-faults, line-row, line-made, decoded-made, next-line}
+use Rattle.rules.specs.definitions.File.{Form, head-faults, head-fault, records}
+use Rattle.rules.specs.definitions.Lines.{Row, Rules, Made, unless-found, line-faults, line-row, line-made, decoded-made, next-line}
 use Rattle.rules.specs.definitions.Lines.Made.{made, refused}
-use Rattle.rules.specs.definitions.Checking.{Passed, lines-from, all-lines, last-empty, Checked, refutation, when-passed, proof-checked, checked-by, checked}
+use Rattle.rules.specs.definitions.Checking.{Passed, lines-from, all-lines, Checked, Manner, rules-of, lines-of, last-checked, when-passed, proof-checked, checked-by}
 use Rattle.rules.specs.definitions.Checking.Passed.{passed, stopped}
+use Rattle.rules.specs.definitions.Checking.Checked.{rejected, accepted}
 use Rattle.theory.specs.laws.Lines.{fails≢passes, refused≢made, all-derived}
-use Rattle.rules.specs.statements.Verdict.{First, Steps, Stops, head-faults, Refuses, First-line, Verdict}
+use Rattle.rules.specs.statements.Verdict.{First, Steps, Stops, Refuses, First-line, Begun, All-pass, Verdict}
 use Rattle.rules.specs.statements.Verdict.Steps.{none, next}
 use Rattle.rules.specs.statements.Verdict.Stops.{token, ending}
 use Rattle.rules.specs.statements.Verdict.Refuses.{no-line, broken-rule}
 use Rattle.rules.specs.statements.Verdict.Verdict.{text-refused, head-refused, line-refused, last-refused, accepts}
+
+rejected≢accepted : {n at v : ℕ} {F : Formula} {rows : List Row} → rejected n at v ≡ accepted F rows → ⊥
+rejected≢accepted e = let z : _≡_ {A = ℕ} 0 1 = cc in omega arith
 
 first-later : (f : Fault) (fs : List Fault) (m v : ℕ) → f .when ≡ false → First fs m v → First (f ∷ fs) m v
 first-later f fs m v e h = record {
@@ -99,15 +103,15 @@ text-exact text m at =
     let ts = tokens-of (uncommented false text 0) in
     (stops-found (length text) begin ts m at, found-stops (length text) begin ts m at)
 
-pub head-exact : (form : Form) (k : ℕ) (s : List ℕ) (m v : ℕ) → (head-fault form k s ≡ fails m v) ↔ First (head-faults form k s) m v
+pub head-exact : (form : Form) (F : Formula) (s : List ℕ) (m v : ℕ) → (head-fault form F s ≡ fails m v) ↔ First (head-faults form F s) m v
 unfolding head-fault
-head-exact form k s m v = first-exact (head-faults form k s) m v
+head-exact form F s m v = first-exact (head-faults form F s) m v
 
 unless-refused : (t : Found) (row : Row) (m v : ℕ) → unless-found t row ≡ refused m v → t ≡ fails m v
 unless-refused passes row m v e = absurd (refused≢made (sym e))
 unless-refused (fails k w) row m v e = cc
 
-decoded-refused : (R : Rules) (F : Formula) (rows : List Row) (bytes : List ℕ) (m v : ℕ) (d : Decoded) → decoded bytes ≡ d
+decoded-refused : (R : Rules) (F : Formula) (rows : List Row) (bytes : List ℕ) (m v : ℕ) (d : Decoded) → R .decode bytes ≡ d
     → decoded-made R F rows (suc (length rows)) d ≡ refused m v → Refuses R F rows bytes m v
 unfolding line-made
 decoded-refused R F rows bytes m v (D.Line l) e h =
@@ -117,7 +121,7 @@ decoded-refused R F rows bytes m v (D.Refused k) e h = no-line (e ∙ cc) (cc)
 
 pub record-exact : (R : Rules) (F : Formula) (rows : List Row) (bytes : List ℕ) (m v : ℕ) → (next-line R F rows bytes ≡ refused m v) ↔ Refuses R F rows bytes m v
 unfolding next-line line-made
-record-exact R F rows bytes m v = (decoded-refused R F rows bytes m v (decoded bytes) refl, back)
+record-exact R F rows bytes m v = (decoded-refused R F rows bytes m v (R .decode bytes) refl, back)
   where
     back : Refuses R F rows bytes m v → next-line R F rows bytes ≡ refused m v
     back (no-line e z) = rw (e, z)
@@ -196,37 +200,48 @@ module _ (R : Rules) (F : Formula) (m i v : ℕ) where
           ∙ rw (lines-from, record-exact R F (h .rows) (h .bytes) m v .1 (h .refuses))
           (ap (λ (k : ℕ). stopped m k v) (omega (arith, h .place, all-derived R F (h .before) (h .rows) (h .earlier) .1)))
 
-module _ (text proof : List ℕ) where
-  last-verdict : (F : Formula) (rows : List Row) → read text ≡ formula F → head-fault merge-proof (length (universals (F .prefix))) proof ≡ passes
-      → all-lines (house F) F (records merge-proof (length (universals (F .prefix))) proof) ≡ passed rows → (t : Bool) → last-empty rows ≡ t
-      → Verdict text proof (refutation F rows)
-  last-verdict F rows e h l true p = rw (refutation, p) (accepts F rows e h l p)
-  last-verdict F rows e h l false p = rw (refutation, p) (last-refused F rows e h l p)
+module _ (m : Manner) (text proof : List ℕ) where
+  last-verdict : (F : Formula) (rows : List Row) → All-pass m text proof F rows → (t : Bool) → m .asks rows ≡ t → Verdict m text proof (last-checked m F rows)
+  last-verdict F rows a true p = rw (last-checked, p) (accepts F rows a p)
+  last-verdict F rows a false p = rw (last-checked, p) (last-refused F rows a p)
 
-  lines-verdict : (F : Formula) → read text ≡ formula F → head-fault merge-proof (length (universals (F .prefix))) proof ≡ passes → (p : Passed)
-      → all-lines (house F) F (records merge-proof (length (universals (F .prefix))) proof) ≡ p → Verdict text proof (when-passed refutation F p)
-  lines-verdict F e h (passed rows) l = last-verdict F rows e h l (last-empty rows) refl
-  lines-verdict F e h (stopped m i v) l = line-refused F e h (stopped-exact (house F) F m i v (records merge-proof (length (universals (F .prefix))) proof) .0 l)
+  lines-verdict : (F : Formula) → Begun m text proof F → (p : Passed) → lines-of m F proof ≡ p → Verdict m text proof (when-passed m F p)
+  lines-verdict F b (passed rows) l = last-verdict F rows (record { begun = b; lines = l }) (m .asks rows) refl
+  lines-verdict F b (stopped n i v) l = line-refused F b (stopped-exact (rules-of m F proof) F n i v (records (m .form) F proof) .0 l)
 
-  head-verdict : (F : Formula) → read text ≡ formula F → (f : Found) → head-fault merge-proof (length (universals (F .prefix))) proof ≡ f
-      → Verdict text proof (proof-checked house refutation merge-proof F proof)
-  head-verdict F e passes h = rw (proof-checked, h) (lines-verdict F e h _ refl)
-  head-verdict F e (fails m v) h = rw (proof-checked, h) (head-refused F e (head-exact merge-proof (length (universals (F .prefix))) proof m v .0 h))
+  head-verdict : (F : Formula) → read text ≡ formula F → (f : Found) → head-fault (m .form) F proof ≡ f → Verdict m text proof (proof-checked m F proof)
+  head-verdict F e passes h = rw (proof-checked, h) (lines-verdict F (record { given = e; head = h }) _ refl)
+  head-verdict F e (fails n v) h = rw (proof-checked, h) (head-refused F e (head-exact (m .form) F proof n v .0 h))
 
-  text-verdict : (r : Reading) → read text ≡ r → Verdict text proof (checked text proof)
+  text-verdict : (r : Reading) → read text ≡ r → Verdict m text proof (checked-by m text proof)
   unfolding checked-by
-  text-verdict (unread m at) e = rw (checked-by, e) (text-refused (text-exact text m at .0 e))
+  text-verdict (unread n at) e = rw (checked-by, e) (text-refused (text-exact text n at .0 e))
   text-verdict (formula F) e = rw (checked-by, e) (head-verdict F e _ refl)
 
-  verdict-checked : (c : Checked) → Verdict text proof c → checked text proof ≡ c
+  verdict-checked : (c : Checked) → Verdict m text proof c → checked-by m text proof ≡ c
   unfolding checked-by
-  verdict-checked c (text-refused {m = m} {at = at} s) = rw (checked-by, text-exact text m at .1 s)
-  verdict-checked c (head-refused {m = m} {v = v} F e s) = rw (checked-by, e, proof-checked, head-exact merge-proof (length (universals (F .prefix))) proof m v .1 s)
-  verdict-checked c (line-refused {m = m} {i = i} {v = v} F e h s) =
-      rw (checked-by, e, proof-checked, h, stopped-exact (house F) F m i v (records merge-proof (length (universals (F .prefix))) proof) .1 s)
-  verdict-checked c (last-refused F rows e h l p) = rw (checked-by, e, proof-checked, h, l, refutation, p)
-  verdict-checked c (accepts F rows e h l p) = rw (checked-by, e, proof-checked, h, l, refutation, p)
+  verdict-checked c (text-refused {n = n} {at = at} s) = rw (checked-by, text-exact text n at .1 s)
+  verdict-checked c (head-refused {n = n} {v = v} F e s) = rw (checked-by, e, proof-checked, head-exact (m .form) F proof n v .1 s)
+  verdict-checked c (line-refused {n = n} {i = i} {v = v} F b s) =
+      rw (checked-by, b .given, proof-checked, b .head, stopped-exact (rules-of m F proof) F n i v (records (m .form) F proof) .1 s)
+  verdict-checked c (last-refused F rows a p) = rw (checked-by, a .begun .given, proof-checked, a .begun .head, a .lines, last-checked, p)
+  verdict-checked c (accepts F rows a p) = rw (checked-by, a .begun .given, proof-checked, a .begun .head, a .lines, last-checked, p)
 
   -- checking gives a verdict exactly where its stage does, in the listed order
-  pub verdict-exact : (c : Checked) → (checked text proof ≡ c) ↔ Verdict text proof c
-  verdict-exact c = (λ e. subst (Verdict text proof) e (text-verdict (read text) refl), verdict-checked c)
+  pub verdict-exact : (c : Checked) → (checked-by m text proof ≡ c) ↔ Verdict m text proof c
+  verdict-exact c = (λ e. subst (Verdict m text proof) e (text-verdict (read text) refl), verdict-checked c)
+
+-- what is accepted passed all stages
+pub accepted-passes : (m : Manner) (text proof : List ℕ) (F : Formula) (rows : List Row) → checked-by m text proof ≡ accepted F rows
+    → All-pass m text proof F rows × (m .asks rows ≡ true)
+accepted-passes m text proof F rows e = by (accepted F rows) refl (verdict-exact m text proof (accepted F rows) .0 e)
+  where
+    by : (c : Checked) → c ≡ accepted F rows → Verdict m text proof c → All-pass m text proof F rows × (m .asks rows ≡ true)
+    by c h (text-refused s) = absurd (rejected≢accepted h)
+    by c h (head-refused G r s) = absurd (rejected≢accepted h)
+    by c h (line-refused G b s) = absurd (rejected≢accepted h)
+    by c h (last-refused G w a p) = absurd (rejected≢accepted h)
+    by c h (accepts G w a p) =
+        let f : G ≡ F = cc in
+        let r : w ≡ rows = cc in
+        (subst (λ (X : Formula). All-pass m text proof X rows) f (subst (All-pass m text proof G) r a), subst (λ (x : List Row). m .asks x ≡ true) r p)

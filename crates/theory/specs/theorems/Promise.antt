@@ -6,6 +6,8 @@ use Prim.Native.Nat.{ℕ, _≤_}
 use native.Mathlib.Omega.{arith}
 use lib.Dec.{ltb}
 use lib.ListN.{length}
+use Rattle.rules.specs.declared.Line.{Line}
+use Rattle.rules.specs.declared.Line.the-variants as L
 use Rattle.rules.specs.declared.Value.the-variants.{Star, One, Zero}
 use Rattle.rules.specs.declared.Node.the-variants.{None, Leaf, Branch}
 use Rattle.rules.specs.definitions.Limits.{text-most}
@@ -13,12 +15,12 @@ use Rattle.rules.specs.definitions.Formula.{Bound, Clause, Formula, False}
 use Rattle.rules.specs.definitions.Formula.Quant.{exists, forall}
 use Rattle.rules.specs.definitions.Reading.{read}
 use Rattle.rules.specs.definitions.Reading.Reading.{formula}
-use Rattle.rules.specs.definitions.Lines.{Entry, Row}
+use Rattle.rules.specs.definitions.Lines.{Entry, Row, strict}
 use Rattle.rules.specs.definitions.Checking.{Checked, checked}
 use Rattle.rules.specs.definitions.Checking.Checked.{rejected, accepted}
 use Rattle.rules.specs.definitions.Services.{Lent, Answer, check-answer, refused-early, short-tables, checking}
 use Rattle.theory.specs.laws.Listed.{check-listed}
-use Rattle.theory.specs.theorems.Countermodel.{accepted-false}
+use Rattle.theory.specs.theorems.Countermodel.{strict-alike, accepted-false}
 use Rattle.rules.specs.definitions.Bytes.{text, hex}
 use Rattle.rules.specs.cases.Worked.{checks, G, proof-G}
 use Rattle.rules.specs.cases.Apart.{example-16, proof-16}
@@ -50,7 +52,7 @@ answered-zero text proof T = by (short-tables T) (ltb text-most (length text)) r
 pub answered-false : (text proof : List ℕ) (T : Lent) → checking text proof T .reply .number ≡ 0 → (F : Formula) × (read text ≡ formula F) × False F
 answered-false text proof T z =
     let a = answered-zero text proof T z in
-    let f = accepted-false text proof (a .formula-is) (a .rows) (a .accepts) in
+    let f = accepted-false strict strict-alike text proof (a .formula-is) (a .rows) (a .accepts) in
     (a .formula-is, f .0, f .1)
 
 -- ---- instances
@@ -63,8 +65,11 @@ every v = record { kind = forall; var = v }
 abbrev of-words : ℕ → ℕ → Clause
 of-words p n = record { plain = p ∷ []; negated = n ∷ [] }
 
-abbrev row : ℕ → ℕ → Entry → Row
-row p n e = record { clause = of-words p n; entries = e ∷ [] }
+abbrev row : Line → ℕ → ℕ → Entry → Row
+row l p n e = record { line = l; clause = of-words p n; entries = e ∷ [] }
+
+abbrev resolve : ℕ → ℕ → ℕ → ℕ → Line
+resolve a b x m = L.Resolve (record { a = a; b = b; pivot = x; merge = m })
 
 abbrev leaf : ℕ → Rattle.rules.specs.declared.Value.Value → Entry
 leaf i v = record { node = Leaf v; root = i }
@@ -74,11 +79,11 @@ formula-G = record { variables = 3; prefix = any 1 ∷ every 2 ∷ any 3 ∷ [];
 
 abbrev pub rows-G : List Row
 rows-G =
-    row 5 0 (leaf 1 Zero)
-    ∷ row 4 1 (leaf 2 One)
-    ∷ row 0 4 (leaf 3 Star)
-    ∷ row 4 0 (record { node = Branch 1 1 2; root = 4 })
-    ∷ row 0 0 (record { node = None; root = 4 })
+    row (L.Axiom 1) 5 0 (leaf 1 Zero)
+    ∷ row (L.Axiom 2) 4 1 (leaf 2 One)
+    ∷ row (L.Axiom 3) 0 4 (leaf 3 Star)
+    ∷ row (resolve 1 2 1 1) 4 0 (record { node = Branch 1 1 2; root = 4 })
+    ∷ row (resolve 4 3 3 0) 0 0 (record { node = None; root = 4 })
     ∷ []
 
 pub accepts-G : checked G proof-G ≡ accepted formula-G rows-G
@@ -87,7 +92,7 @@ accepts-G = refl
 
 -- G is false
 pub G-false : False formula-G
-G-false = accepted-false G proof-G formula-G rows-G accepts-G .1
+G-false = accepted-false strict strict-alike G proof-G formula-G rows-G accepts-G .1
 
 abbrev pub formula-16 : Formula
 formula-16 = record {
@@ -98,13 +103,13 @@ formula-16 = record {
 
 abbrev pub rows-16 : List Row
 rows-16 =
-    row 5 0 (leaf 1 Zero)
-    ∷ row 4 1 (leaf 2 One)
-    ∷ row 4 0 (record { node = Branch 1 1 2; root = 3 })
-    ∷ row 1 4 (leaf 4 Zero)
-    ∷ row 0 5 (leaf 5 One)
-    ∷ row 0 4 (record { node = Branch 1 4 5; root = 6 })
-    ∷ row 0 0 (record { node = None; root = 3 })
+    row (L.Axiom 1) 5 0 (leaf 1 Zero)
+    ∷ row (L.Axiom 2) 4 1 (leaf 2 One)
+    ∷ row (resolve 1 2 1 1) 4 0 (record { node = Branch 1 1 2; root = 3 })
+    ∷ row (L.Axiom 3) 1 4 (leaf 4 Zero)
+    ∷ row (L.Axiom 4) 0 5 (leaf 5 One)
+    ∷ row (resolve 4 5 1 1) 0 4 (record { node = Branch 1 4 5; root = 6 })
+    ∷ row (resolve 3 6 3 0) 0 0 (record { node = None; root = 3 })
     ∷ []
 
 pub accepts-16 : checked (text example-16) (hex proof-16) ≡ accepted formula-16 rows-16
@@ -113,4 +118,4 @@ accepts-16 = refl
 
 -- Example 16's formula is false
 pub example-16-false : False formula-16
-example-16-false = accepted-false (text example-16) (hex proof-16) formula-16 rows-16 accepts-16 .1
+example-16-false = accepted-false strict strict-alike (text example-16) (hex proof-16) formula-16 rows-16 accepts-16 .1

@@ -23,14 +23,16 @@ use Rattle.rules.specs.definitions.Reading.{read}
 use Rattle.rules.specs.definitions.Reading.Reading.{formula}
 use Rattle.theory.specs.laws.Reading.{read-proper}
 use Rattle.theory.specs.laws.Lines.{clause-in}
+use Rattle.rules.specs.definitions.Faults.{first-of}
 use Rattle.rules.specs.definitions.File.{merge-proof, decoded, encoded, file-of, announced}
-use Rattle.rules.specs.statements.Proves.{All-bytes, Proves, One-way}
+use Rattle.rules.specs.statements.Proves.{All-bytes, Decides, Proves, One-way}
 use Rattle.theory.specs.laws.File.{no-bytes, Fits, decoded-encoded, announced-file, records-file, head-file, bytes-file}
+use Rattle.rules.specs.definitions.Maps.{Column}
 use Rattle.rules.specs.definitions.Lines.{Row, clause-number, in-set}
-use Rattle.rules.specs.definitions.Checking.{checked}
+use Rattle.rules.specs.definitions.Checking.{Manner, refuting, rules-of, checked-by}
 use Rattle.rules.specs.definitions.Checking.Checked.{accepted}
-use Rattle.rules.specs.definitions.Paper.{single, falsifying-literal, Select, Merged, Proof-line, Existential-part, By-axiom, By-resolution, Empty, Refutation}
-use Rattle.rules.specs.definitions.Named.{universal-at, Left-in, Named, Follow}
+use Rattle.rules.specs.definitions.Paper.{single, falsifying-literal, Select, Merged, Proof-line, Existential-part, By-axiom, By-resolution, Calculus, Empty, Refutation}
+use Rattle.rules.specs.definitions.Named.{universal-at, Named, Follow}
 use Rattle.rules.specs.statements.Held.{Hold}
 use Rattle.theory.specs.theorems.Exact.{records-length, accepted-held, exact, proves-refutation}
 
@@ -108,11 +110,11 @@ member-at (x ∷ l) a d m = by (List·Memᴰ·cases-cons m) (member-at l a d)
     by (inr m′) rest = let r = rest m′ in (suc (r .0), omega (arith, r .1), r .2)
 
 -- ---- a line that follows as published is one that some record names
-module _ (F : Formula) (L : ℕ → Proof-line) (i : ℕ) where
-  axiom-named : By-axiom F L i → (l : Line) × Named F L i l
+module _ (C : Calculus) (F : Formula) (L : ℕ → Proof-line) (i : ℕ) where
+  axiom-named : By-axiom F L i → (l : Line) × Named C F L i l
   axiom-named h = by (member-at (F .matrix) (h .source) no-literal (h .in-matrix))
     where
-      by : (c : ℕ) × (c < length (F .matrix)) × (getD (F .matrix) c no-literal ≡ h .source) → (l : Line) × Named F L i l
+      by : (c : ℕ) × (c < length (F .matrix)) × (getD (F .matrix) c no-literal ≡ h .source) → (l : Line) × Named C F L i l
       by (c, below, e) =
           let n : suc c - 1 ≡ c = omega arith in
           let same : h .source ≡ clause-number F (suc c) = sym e ∙ ap (λ (k : ℕ). getD (F .matrix) k no-literal) (sym n) in (
@@ -120,21 +122,21 @@ module _ (F : Formula) (L : ℕ → Proof-line) (i : ℕ) where
             record {
               number = (omega arith, omega (arith, below));
               clause = subst (Existential-part F (L i .clause)) same (h .clause);
-              maps = λ j l. h .maps (universal-at F j) (universal-bound (F .prefix) j l) ∙ ap (λ (C : Clause). single i (falsifying-literal C (universal-at F j))) same;
+              maps = λ j l. h .maps (universal-at F j) (universal-bound (F .prefix) j l) ∙ ap (λ (D : Clause). single i (falsifying-literal D (universal-at F j))) same;
             },
           )
 
-  module _ (h : By-resolution (Left-in F) F L i) where
+  module _ (h : By-resolution C F L i) where
     abbrev merges : ℕ → Type 0
-    merges j = Merged (Left-in F) (h .x) (universal-at F j) (L (h .a) .map (universal-at F j)) (L (h .b) .map (universal-at F j)) i (L i .map (universal-at F j))
+    merges j = Merged C (h .x) (universal-at F j) (L (h .a) .map (universal-at F j)) (L (h .b) .map (universal-at F j)) i (L i .map (universal-at F j))
 
     abbrev selects : ℕ → Type 0
-    selects j = Select (L (h .a) .map (universal-at F j)) (L (h .b) .map (universal-at F j)) (L i .map (universal-at F j))
+    selects j = Select (C .Same) (L (h .a) .map (universal-at F j)) (L (h .b) .map (universal-at F j)) (L i .map (universal-at F j))
 
     choice : Chosen merges selects (length (universals (F .prefix)))
     choice = chosen merges selects (length (universals (F .prefix))) (λ j l. h .maps (universal-at F j) (universal-bound (F .prefix) j l))
 
-    resolution-named : One-way L i → (l : Line) × Named F L i l
+    resolution-named : One-way L i → (l : Line) × Named C F L i l
     resolution-named house = (
       Resolve (record { a = h .a; b = h .b; pivot = h .x; merge = choice .set }),
       record {
@@ -151,14 +153,14 @@ module _ (F : Formula) (L : ℕ → Proof-line) (i : ℕ) where
       },
     )
 
-  pub published-named : One-way L i → By-axiom F L i ⊎ By-resolution (Left-in F) F L i → (l : Line) × Named F L i l
+  pub published-named : One-way L i → By-axiom F L i ⊎ By-resolution C F L i → (l : Line) × Named C F L i l
   published-named house (inl h) = axiom-named h
   published-named house (inr h) = resolution-named h house
 
 -- ---- its record's numbers fit their bytes
-named-fits : (F : Formula) → Proper F → (L : ℕ → Proof-line) (i : ℕ) → i ≤ lines-most → (l : Line) → Named F L i l → Fits l
-named-fits F proper L i few (Axiom c) h = omega (arith, h .number .1, proper .clauses)
-named-fits F proper L i few (Resolve r) h =
+named-fits : (C : Calculus) (F : Formula) → Proper F → (L : ℕ → Proof-line) (i : ℕ) → i ≤ lines-most → (l : Line) → Named C F L i l → Fits l
+named-fits C F proper L i few (Axiom c) h = omega (arith, h .number .1, proper .clauses)
+named-fits C F proper L i few (Resolve r) h =
     let p = bound-by-place exists (F .prefix) (r .pivot) (h .pivot) in
     let v = proper .in-range (p .0) (p .1) in (
       omega (arith, h .a-earlier .1),
@@ -188,72 +190,76 @@ encoded-at [] i h = absurd (omega arith)
 encoded-at (l ∷ ls) zero h = refl
 encoded-at (l ∷ ls) (suc i) h = encoded-at ls i (omega arith)
 
-module _ (text : List ℕ) (F : Formula) (given : read text ≡ formula F) (L : ℕ → Proof-line) (k : ℕ) (few : k ≤ lines-most)
-    (refutes : Refutation (Left-in F) F L k) (house : (i : ℕ) → 1 ≤ i → i ≤ k → One-way L i) where
-  lines : (ls : List Line) × (length ls ≡ k) × ((i : ℕ) → i < k → Named F L (suc i) (getD ls i first))
-  lines = listed (λ i. Named F L (suc i)) k (λ i h. published-named F L (suc i) (house (suc i) (omega arith) (omega (arith, h))) (refutes .1 (suc i) (omega arith) (omega (arith, h))))
+module _ (ground : Column → ℕ → ℕ → Bool) (C : Calculus) (text : List ℕ) (F : Formula) (given : read text ≡ formula F) (L : ℕ → Proof-line) (k : ℕ) (few : k ≤ lines-most)
+    (refutes : Refutation C F L k) (house : (i : ℕ) → 1 ≤ i → i ≤ k → One-way L i) where
+  lines : (ls : List Line) × (length ls ≡ k) × ((i : ℕ) → i < k → Named C F L (suc i) (getD ls i first))
+  lines = listed (λ i. Named C F L (suc i)) k (λ i h. published-named C F L (suc i) (house (suc i) (omega arith) (omega (arith, h))) (refutes .1 (suc i) (omega arith) (omega (arith, h))))
 
   -- the file of those lines
   abbrev file : List ℕ
-  file = file-of merge-proof [] (lines .0)
+  file = file-of (merge-proof .mark) 1 [] (lines .0)
 
-  abbrev universals-count : ℕ
-  universals-count = length (universals (F .prefix))
-
-  follows : Follow F L (map encoded (lines .0))
+  follows : Follow decoded C F L (map encoded (lines .0))
   follows i h =
       let l : i < length (lines .0) = omega (arith, h, length-map (lines .0) encoded) in
       (getD (lines .0) i first, ap decoded (encoded-at (lines .0) i l) ∙ decoded-encoded (getD (lines .0) i first), lines .2 i (omega (arith, l, lines .1)))
 
   announces : announced file ≡ k
-  announces = announced-file 77 82 80 1 (λ _. 0) [] (lines .0) universals-count refl ∙ lines .1
+  announces = announced-file 77 82 80 1 (merge-proof .known) (merge-proof .version) [] (lines .0) F refl ∙ lines .1
 
-  proves : Proves text file F L
+  proves : Proves (refuting ground merge-proof) C text file F L
+  unfolding first-of
   proves = record {
-    text-read = given;
-    head-right = head-file 77 82 80 1 (λ _. 0) [] (lines .0) universals-count refl (omega (arith, lines .1, refutes .0)) (omega (arith, lines .1, few));
-    follow = subst (Follow F L) (sym (records-file 77 82 80 1 (λ _. 0) [] (lines .0) universals-count refl)) follows;
+    derives = record {
+      text-read = given;
+      head-right = head-file 77 82 80 1 (merge-proof .known) (merge-proof .version) [] (lines .0) F refl refl refl (omega (arith, lines .1, refutes .0)) (omega (arith, lines .1, few));
+      follow = subst (Follow decoded C F L) (sym (records-file 77 82 80 1 (merge-proof .known) (merge-proof .version) [] (lines .0) F refl)) follows;
+    };
     empty = subst (λ (n : ℕ). Empty (L n .clause)) (sym announces) (refutes .2);
   }
 
   bytes : All-bytes file
-  bytes = bytes-file 77 82 80 1 (λ _. 0) [] (lines .0) universals-count refl
+  bytes = bytes-file 77 82 80 1 (merge-proof .known) (merge-proof .version) [] (lines .0) F refl
       (omega arith) (omega arith) (omega arith) (omega arith) no-bytes (omega (arith, lines .1, few))
-      first (λ i h. named-fits F (read-proper text F given) L (suc i) (omega (arith, h, lines .1, few)) (getD (lines .0) i first) (lines .2 i (omega (arith, h, lines .1))))
+      first (λ i h. named-fits C F (read-proper text F given) L (suc i) (omega (arith, h, lines .1, few)) (getD (lines .0) i first) (lines .2 i (omega (arith, h, lines .1))))
 
 -- a line that a record names keeps the house rule
-named-one-way : (F : Formula) → Proper F → (L : ℕ → Proof-line) (i : ℕ) (l : Line) → Named F L i l → One-way L i
-named-one-way F proper L i (Axiom c) h =
+named-one-way : (C : Calculus) (F : Formula) → Proper F → (L : ℕ → Proof-line) (i : ℕ) (l : Line) → Named C F L i l → One-way L i
+named-one-way C F proper L i (Axiom c) h =
     λ v p n. proper .one-way (clause-number F c) (clause-in F c (h .number .0) (h .number .1)) v (h .clause .plain v p .0) (h .clause .negated v n .0)
-named-one-way F proper L i (Resolve r) h = h .house
+named-one-way C F proper L i (Resolve r) h = h .house
 
 -- ---- for a text that reads to F, and at most 1,024 lines
-module _ (text : List ℕ) (F : Formula) (given : read text ≡ formula F) (L : ℕ → Proof-line) (k : ℕ) (few : k ≤ lines-most) where
-  pub published-exact : (Refutation (Left-in F) F L k × ((i : ℕ) → 1 ≤ i → i ≤ k → One-way L i))
-      ↔ ((proof : List ℕ) × All-bytes proof × (announced proof ≡ k) × Proves text proof F L)
+module _ (ground : Column → ℕ → ℕ → Bool) (text : List ℕ) (F : Formula) (C : Calculus) (decides : (proof : List ℕ) → Decides (rules-of (refuting ground merge-proof) F proof) C)
+    (given : read text ≡ formula F) (L : ℕ → Proof-line) (k : ℕ) (few : k ≤ lines-most) where
+  abbrev m : Manner
+  m = refuting ground merge-proof
+
+  pub published-exact : (Refutation C F L k × ((i : ℕ) → 1 ≤ i → i ≤ k → One-way L i))
+      ↔ ((proof : List ℕ) × All-bytes proof × (announced proof ≡ k) × Proves m C text proof F L)
   published-exact = (
     λ (refutes, house). (
-      file text F given L k few refutes house,
-      bytes text F given L k few refutes house,
-      announces text F given L k few refutes house,
-      proves text F given L k few refutes house,
+      file ground C text F given L k few refutes house,
+      bytes ground C text F given L k few refutes house,
+      announces ground C text F given L k few refutes house,
+      proves ground C text F given L k few refutes house,
     ),
     λ (proof, b, e, p). (
-      subst (Refutation (Left-in F) F L) e (proves-refutation text proof F L p),
+      subst (Refutation C F L) e (proves-refutation ground merge-proof text proof F C (decides proof) L p),
       λ i lo hi. by proof p i lo (omega (arith, e, hi)),
     ),
   )
     where
-      by : (proof : List ℕ) → Proves text proof F L → (i : ℕ) → 1 ≤ i → i ≤ announced proof → One-way L i
+      by : (proof : List ℕ) → Proves m C text proof F L → (i : ℕ) → 1 ≤ i → i ≤ announced proof → One-way L i
       by proof p zero lo hi = absurd (omega arith)
       by proof p (suc i) lo hi =
-          let f = p .follow i (omega (arith, hi, records-length (length (universals (F .prefix))) proof)) in
-          named-one-way F (read-proper text F given) L (suc i) (f .0) (f .2)
+          let f = p .derives .follow i (omega (arith, hi, records-length merge-proof F proof)) in
+          named-one-way C F (read-proper text F given) L (suc i) (f .0) (f .2)
 
   -- such a proof is accepted, and its rows hold the refutation's lines
-  pub published-accepted : Refutation (Left-in F) F L k → ((i : ℕ) → 1 ≤ i → i ≤ k → One-way L i)
-      → (proof : List ℕ) × All-bytes proof × (announced proof ≡ k) × ((rows : List Row) × (checked text proof ≡ accepted F rows) × Hold F L rows)
+  pub published-accepted : Refutation C F L k → ((i : ℕ) → 1 ≤ i → i ≤ k → One-way L i)
+      → (proof : List ℕ) × All-bytes proof × (announced proof ≡ k) × ((rows : List Row) × (checked-by m text proof ≡ accepted F rows) × Hold F L rows)
   published-accepted refutes house =
       let w = published-exact .0 (refutes, house) in
-      let a = exact text (w .0) F .1 (L, w .3) in
-      (w .0, w .1, w .2, (a .0, a .1, accepted-held text (w .0) F (a .0) (a .1) L .0 (w .3)))
+      let a = exact ground merge-proof text (w .0) F C (decides (w .0)) .1 (L, w .3) in
+      (w .0, w .1, w .2, (a .0, a .1, accepted-held ground merge-proof text (w .0) F C (decides (w .0)) (a .0) (a .1) L .0 (w .3)))

@@ -2,7 +2,7 @@
 use mathlib.Core.Path.{_≡_, refl, ap, _∙_}
 use native.Mathlib.Omega.{arith}
 use borrow.Author.Needs.{needs}
-use Rattle.rules.specs.definitions.Formula.{Formula, existentials}
+use Rattle.rules.specs.definitions.Formula.{Formula}
 use Rattle.sets.specs.Values.{set-of}
 use Rattle.checker.specs.Game.{Prefixed, Bound-first}
 use Prim.Native.Nat.{_≤_, _-_}
@@ -35,7 +35,7 @@ unfolding prefix-words
 shared-slice-read-w c = omega arith
 
 returns : tie.Need-returns Inv-loop μ-loop
-returns c = λ F P n. let l = c .before .before .before .loop in game-whole F (l .i) (l .g) (word-outside F _ (c .before .before .before .before .before .before .before .pre .0) P (l .i) (c .if1 .taken)) (l .inv .2 ∙ n) (l .inv .1 ∙ ap set-of (c .before .before .before .before .begin .ensures .existential-set) ∙ c .before .before .before .before .before .find-existentials .ensures F P) (l .inv .3 F P .1)
+returns c = λ F s P n. let l = c .before .before .before .loop in game-whole F (l .i) (l .g) (word-outside F _ (c .before .before .before .before .before .before .before .pre .0) P (l .i) (c .if1 .taken)) (l .inv .2 ∙ n) (l .inv .1 ∙ ap set-of (c .before .before .before .before .begin .ensures .existential-set) ∙ c .before .before .before .before .before .find-existentials .ensures F P) (l .inv .3 F P .1) s
 
 bind-requires : tie.Need-bind-requires Inv-loop μ-loop
 unfolding prefix-words
@@ -53,7 +53,7 @@ loop-again c = let l = c .before .before .before .before .loop in (omega arith, 
 
 returns-2 : tie.Need-returns-2 Inv-loop μ-loop
 unfolding prefix-words
-returns-2 c = λ F P n. let l = c .before .loop in game-whole F (l .i) (l .g) (omega (arith, prefix-fits F _ (c .before .before .before .before .before .pre .0) P, c .loop-test .left)) (l .inv .2 ∙ n) (l .inv .1 ∙ ap set-of (c .before .before .begin .ensures .existential-set) ∙ c .before .before .before .find-existentials .ensures F P) (l .inv .3 F P .1)
+returns-2 c = λ F s P n. let l = c .before .loop in game-whole F (l .i) (l .g) (omega (arith, prefix-fits F _ (c .before .before .before .before .before .pre .0) P, c .loop-test .left)) (l .inv .2 ∙ n) (l .inv .1 ∙ ap set-of (c .before .before .begin .ensures .existential-set) ∙ c .before .before .before .find-existentials .ensures F P) (l .inv .3 F P .1) s
 
 pub game-of-spec : {M : Type 1} → statement M
 game-of-spec =

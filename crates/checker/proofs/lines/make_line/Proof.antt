@@ -34,13 +34,13 @@ resolution-line-requires : tie.Need-resolution-line-requires
 resolution-line-requires c κs = search needs
 
 returns : tie.Need-returns
-returns c = λ F rows l0 n0 r0 R. next-refused F rows _ _ _ (sym (c .before .before .before .before .decode .ensures) ∙ c .before .before .d .given .1) (c .refuse .ensures .0) (c .refuse .ensures .1)
+returns c = λ R F rows l0 n0 r0 S. next-refused R F (S .whole .game .decodes) rows _ _ _ (sym (c .before .before .before .before .decode .ensures) ∙ c .before .before .d .given .1) (c .refuse .ensures .0) (c .refuse .ensures .1)
 
 returns-2 : tie.Need-returns-2
-returns-2 c = λ F rows l0 n0 r0 R. next-made F rows _ _ _ _ (R .line) (sym (c .before .before .before .before .before .before .before .decode .ensures) ∙ c .before .before .before .before .before .d2 .given .1 ∙ ap D.Line (c .before .before .line .given .1)) (c .axiom-line .ensures F rows (R .whole))
+returns-2 c = λ R F rows l0 n0 r0 S. next-made R F (S .whole .game .decodes) rows _ _ _ _ (S .line) (sym (c .before .before .before .before .before .before .before .decode .ensures) ∙ c .before .before .before .before .before .d2 .given .1 ∙ ap D.Line (c .before .before .line .given .1)) (c .axiom-line .ensures R F rows (S .whole))
 
 returns-3 : tie.Need-returns-3
-returns-3 c = λ F rows l0 n0 r0 R. next-made F rows _ _ _ _ (R .line) (sym (c .before .before .before .before .before .before .before .decode .ensures) ∙ c .before .before .before .before .before .d2 .given .1 ∙ ap D.Line (c .before .before .line2 .given .1)) (c .resolution-line .ensures F rows l0 n0 r0 R)
+returns-3 c = λ R F rows l0 n0 r0 S. next-made R F (S .whole .game .decodes) rows _ _ _ _ (S .line) (sym (c .before .before .before .before .before .before .before .decode .ensures) ∙ c .before .before .before .before .before .d2 .given .1 ∙ ap D.Line (c .before .before .line2 .given .1)) (c .resolution-line .ensures R F rows l0 n0 r0 S)
 
 pub make-line-spec : {M : Type 1} → statement M
 make-line-spec =

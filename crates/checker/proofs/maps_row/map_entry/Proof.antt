@@ -12,7 +12,7 @@ root-of-requires : tie.Need-root-of-requires
 root-of-requires c κs =
     let s = c .before .before .before in
     let p = s .pre in
-    line-place (p .0) (p .1) (s .args .nodes .now) (p .2) (s .args .roots .now) (p .3) (s .args .r) (s .args .i) (p .5) (s .args .j) (p .4 .offset) (s .args .r .a) (p .5 .a-earlier)
+    line-place (p .0) (p .1) (p .2) (s .args .nodes .now) (p .3) (s .args .roots .now) (p .4) (s .args .r) (s .args .i) (p .6) (s .args .j) (p .5 .offset) (s .args .r .a) (p .6 .a-earlier)
 
 cast-root-of-2 : tie.Need-cast-root-of-2
 cast-root-of-2 c = search needs
@@ -21,7 +21,7 @@ root-of-requires-2 : tie.Need-root-of-requires-2
 root-of-requires-2 c κs =
     let s = c .before .before .before .before .before in
     let p = s .pre in
-    line-place (p .0) (p .1) (s .args .nodes .now) (p .2) (s .args .roots .now) (p .3) (s .args .r) (s .args .i) (p .5) (s .args .j) (p .4 .offset) (s .args .r .b) (p .5 .b-earlier)
+    line-place (p .0) (p .1) (p .2) (s .args .nodes .now) (p .3) (s .args .roots .now) (p .4) (s .args .r) (s .args .i) (p .6) (s .args .j) (p .5 .offset) (s .args .r .b) (p .6 .b-earlier)
 
 is-chosen-requires : tie.Need-is-chosen-requires
 is-chosen-requires c κs = search needs
@@ -33,14 +33,14 @@ merge-entry-requires : tie.Need-merge-entry-requires
 merge-entry-requires c κs =
     let s = c .before .before .before .before .before .before .before .before .before in
     let p = s .pre in
-    merge-asks (p .0) (p .1) (s .args .nodes .now) (p .2) (s .args .roots .now) (p .3) (s .args .r) (s .args .i) (p .5) (s .args .j) (p .4 .offset) _ _
+    merge-asks (p .0) (p .1) (p .2) (s .args .nodes .now) (p .3) (s .args .roots .now) (p .4) (s .args .r) (s .args .i) (p .6) (s .args .j) (p .5 .offset) _ _
     (c .before .before .before .before .before .root-of .ensures)
     (c .before .before .before .root-of2 .ensures)
 
 returns : tie.Need-returns
-returns c = λ F rows nodes₀ roots₀ L R.
+returns c = λ R F rows nodes₀ roots₀ L S.
     let s = c .before .before .before .before .before .before .before .before .before .before in
-    merge-gets F rows (s .args .nodes .now) nodes₀ (s .args .roots .now) roots₀ (s .args .r) (s .args .i) R (s .args .j) (L .offset) _ _
+    merge-gets R F rows (s .args .nodes .now) nodes₀ (s .args .roots .now) roots₀ (s .args .r) (s .args .i) S (s .args .j) (L .offset) _ _
     (c .before .before .before .before .before .before .root-of .ensures)
     (c .before .before .before .before .root-of2 .ensures)
     (s .args .left)
@@ -53,14 +53,14 @@ select-entry-requires : tie.Need-select-entry-requires
 select-entry-requires c κs =
     let s = c .before .before .before .before .before .before .before .before in
     let p = s .pre in
-    select-asks (p .0) (p .1) (s .args .nodes .now) (p .2) (s .args .roots .now) (p .3) (s .args .r) (s .args .i) (p .5) (s .args .j) (p .4 .offset) _ _
+    select-asks (p .0) (p .1) (p .2) (s .args .nodes .now) (p .3) (s .args .roots .now) (p .4) (s .args .r) (s .args .i) (p .6) (s .args .j) (p .5 .offset) _ _
     (c .before .before .before .before .root-of .ensures)
     (c .before .before .root-of2 .ensures)
 
 returns-2 : tie.Need-returns-2
-returns-2 c = λ F rows nodes₀ roots₀ L R.
+returns-2 c = λ R F rows nodes₀ roots₀ L S.
     let s = c .before .before .before .before .before .before .before .before .before in
-    select-gets F rows (s .args .nodes .now) nodes₀ (s .args .roots .now) roots₀ (s .args .r) (s .args .i) R (s .args .j) (L .offset) _ _
+    select-gets R F rows (s .args .nodes .now) nodes₀ (s .args .roots .now) roots₀ (s .args .r) (s .args .i) S (s .args .j) (L .offset) _ _
     (c .before .before .before .before .before .root-of .ensures)
     (c .before .before .before .root-of2 .ensures)
     (c .select-entry .result)

@@ -7,7 +7,7 @@ use lib.ListN.{length}
 use borrow.Author.Needs.{needs}
 use Rattle.rules.specs.definitions.Limits.{universals-most}
 use Rattle.rules.specs.definitions.Formula.{Formula, universals}
-use Rattle.rules.specs.definitions.Lines.{Row}
+use Rattle.rules.specs.definitions.Lines.{Row, Rules}
 use Rattle.checker.specs.MapRows.{Resolving}
 use Rattle.checker.proofs.MapRows.{Lefts, Done, done-none, done-more, done-fails, done-all, game-lefts, game-variable}
 use Rattle.checker.proofs.maps_row.resolution_maps.Statement.{statement}
@@ -17,7 +17,8 @@ abbrev Inv-loop : tie.InvT-loop
 Inv-loop nodes roots r i vars left k node-row₀ root-row₀ j₀ node-row root-row j =
     (j ≤ k)
     × (k ≤ universals-most)
-    × ((F : Formula) (rows : List Row) (nodes₀ roots₀ : List ℕ) → Lefts F k left → Resolving F rows nodes nodes₀ roots roots₀ r i → Done F rows r i j node-row root-row)
+    × ((R : Rules) (F : Formula) (rows : List Row) (nodes₀ roots₀ : List ℕ) → Lefts R F k left → Resolving R F rows nodes nodes₀ roots roots₀ r i
+    → Done R F rows r i j node-row root-row)
 
 abbrev μ-loop : tie.MeasureT-loop
 μ-loop nodes roots r i vars left k node-row₀ root-row₀ j₀ node-row root-row j = k - j
@@ -28,7 +29,7 @@ cast-k c = search needs
 loop-holds : tie.Need-loop-holds Inv-loop μ-loop
 loop-holds c =
     let s = c .before .before .before .before .before in
-    (omega arith, omega (arith, s .pre .4 .universal-count, s .pre .5 .proper .universals), λ F rows nodes₀ roots₀ L R. done-none F rows (s .args .r) (s .args .i))
+    (omega arith, omega (arith, s .pre .5 .universal-count, s .pre .6 .proper .universals), λ R F rows nodes₀ roots₀ L S. done-none R F rows (s .args .r) (s .args .i))
 
 mul-s : tie.Need-mul-s Inv-loop μ-loop
 mul-s c = search needs
@@ -40,7 +41,7 @@ map-entry-requires : tie.Need-map-entry-requires Inv-loop μ-loop
 map-entry-requires c κs =
     let s = c .before .before .before .before .before .before .before .before in
     let p = s .pre in
-    (p .0, p .1, p .2, p .3, game-lefts (p .0) (s .args .g) (p .4) .1 (c .before .before .loop .j) (c .before .loop-test .taken), p .5)
+    (p .0, p .1, p .2, p .3, p .4, game-lefts (p .0) (p .1) (s .args .g) (p .5) .1 (c .before .before .loop .j) (c .before .loop-test .taken), p .6)
 
 mul-t22 : tie.Need-mul-t22 Inv-loop μ-loop
 mul-t22 c = search needs
@@ -49,18 +50,18 @@ array-read-t25 : tie.Need-array-read-t25 Inv-loop μ-loop
 array-read-t25 c = search needs
 
 returns : tie.Need-returns Inv-loop μ-loop
-returns c = λ F rows nodes₀ roots₀ G R.
+returns c = λ R F rows nodes₀ roots₀ G S.
     let l = c .before .before .before .before .before .loop in
     let t = c .before .before .before .before .loop-test .taken in
     let s = c .before .before .before .before .before .before .before .before .before .before .before in
-    let L = game-lefts F (s .args .g) G in
+    let L = game-lefts R F (s .args .g) G in
     let h : l .j < length (universals (F .prefix)) = omega (arith, t, G .universal-count) in
-    done-fails F rows (s .args .r) (s .args .i) (l .j) (l .node-row) (l .root-row) (l .inv .2 F rows nodes₀ roots₀ L R) h (c .before .before .map-entry .result)
-    (c .before .before .map-entry .ensures F rows nodes₀ roots₀ (L .1 (l .j) t) R)
+    done-fails R F rows (s .args .r) (s .args .i) (l .j) (l .node-row) (l .root-row) (l .inv .2 R F rows nodes₀ roots₀ L S) h (c .before .before .map-entry .result)
+    (c .before .before .map-entry .ensures R F rows nodes₀ roots₀ (L .1 (l .j) t) S)
     (c .if1 .taken)
     _
     refl
-    (game-variable F (s .args .g) G (l .j) h)
+    (game-variable R F (s .args .g) G (l .j) h)
 
 mul-node-row : tie.Need-mul-node-row Inv-loop μ-loop
 mul-node-row c = search needs
@@ -87,18 +88,18 @@ loop-again c =
     let s = c .before .before .before .before .before .before .before .before .before .before .before in (
       omega arith,
       l .inv .1,
-      λ F rows nodes₀ roots₀ L R.
-          done-more F rows (s .args .r) (s .args .i) (l .j) (l .node-row) (l .root-row) (l .inv .2 F rows nodes₀ roots₀ L R) (omega (arith, t, L .0)) (c .before .before .map-entry .result)
-          (c .before .before .map-entry .ensures F rows nodes₀ roots₀ (L .1 (l .j) t) R)
+      λ R F rows nodes₀ roots₀ L S.
+          done-more R F rows (s .args .r) (s .args .i) (l .j) (l .node-row) (l .root-row) (l .inv .2 R F rows nodes₀ roots₀ L S) (omega (arith, t, L .0)) (c .before .before .map-entry .result)
+          (c .before .before .map-entry .ensures R F rows nodes₀ roots₀ (L .1 (l .j) t) S)
           (omega (arith, l .inv .1, L .0))
           (c .if1 .left),
     )
 
 returns-2 : tie.Need-returns-2 Inv-loop μ-loop
-returns-2 c = λ F rows nodes₀ roots₀ G R.
+returns-2 c = λ R F rows nodes₀ roots₀ G S.
     let l = c .before .loop in
     let s = c .before .before .before .before .before .before .before in
-    done-all F rows (s .args .r) (s .args .i) (l .j) (l .node-row) (l .root-row) (l .inv .2 F rows nodes₀ roots₀ (game-lefts F (s .args .g) G) R)
+    done-all R F rows (s .args .r) (s .args .i) (l .j) (l .node-row) (l .root-row) (l .inv .2 R F rows nodes₀ roots₀ (game-lefts R F (s .args .g) G) S)
     (omega (arith, c .loop-test .left, G .universal-count))
     _
     refl
