@@ -1,5 +1,7 @@
 // Prints what 01 says for a formula's text and a proof: game.qdimacs and game.mrp in the folder that it
 // is run in, or two files named as arguments.
+#![tactic(auto)]
+
 ghost use Rattle.std.specs.Prelude.{◌≡◌, length};
 ghost use Rattle.io.specs.Counts.{IsPrefixLen};
 

@@ -1,5 +1,7 @@
 // Cases that are run: those of 01 that are not proved as cases, 004's Examples 15 and 16, its equality and squared
 // equality families, and refused games. For each its name, the reply's numbers, and what is printed.
+#![tactic(auto)]
+
 ghost use Rattle.io.specs.Counts.{IsPrefixLen};
 
 use libc::STDOUT_FILENO;

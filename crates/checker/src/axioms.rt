@@ -16,7 +16,7 @@ use rules::{Node, Value};
 use sets::Clause;
 
 // What a line makes: its clause and its row, or the number and the variable of its refusal.
-#[derive(Drop)]
+#[derive(Clone, Copy)]
 pub struct Made {
     pub clause: Clause,
     pub row: MapRow,

@@ -10,7 +10,7 @@ use proof::Head;
 use rules::limits::NOT_EMPTY;
 
 // A refusal's number, place and variable; or 0 each, and the line count.
-#[derive(Drop)]
+#[derive(Clone, Copy)]
 pub struct Findings {
     pub number: u32,
     pub place: u32,

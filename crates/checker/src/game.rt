@@ -21,7 +21,7 @@ use sets::Set;
 
 // The clause count and the number of universals; the existential variables; each universal's
 // variable and the variables left of it; and all variables of the prefix.
-#[derive(Drop)]
+#[derive(Clone, Copy)]
 pub struct Game {
     pub count: u32,
     pub universals: u32,

@@ -1,4 +1,6 @@
 // From a proof file's bytes to the checked rows in the lent tables.
+#![tactic(auto)]
+
 pub mod axioms;
 pub mod check;
 pub mod game;

@@ -32,7 +32,7 @@ use rules::{Node, Resolution};
 use sets::Set;
 
 // What one universal gets: its node's word and its root, or a refusal's number.
-#[derive(Drop)]
+#[derive(Clone, Copy)]
 pub struct MapEntry {
     pub node: u32,
     pub root: u32,
@@ -40,7 +40,7 @@ pub struct MapEntry {
 }
 
 // What all universals get: the row, or the first refusal's number and variable.
-#[derive(Drop)]
+#[derive(Clone, Copy)]
 pub struct MapsMade {
     pub row: MapRow,
     pub refusal: u32,

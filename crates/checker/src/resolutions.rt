@@ -15,7 +15,7 @@ use rules::limits::{
 use sets::{Clause, Set};
 
 // The clause, or the refusal's number.
-#[derive(Drop)]
+#[derive(Clone, Copy)]
 pub struct Joined {
     pub clause: Clause,
     pub refusal: u32,

@@ -9,7 +9,7 @@ use rules::limits::ROW_WORDS;
 use sets::Clause;
 
 // A place for each of 16 universals, unused places zero.
-#[derive(Drop)]
+#[derive(Clone, Copy)]
 pub struct MapRow {
     pub nodes: [u32; ROW_WORDS],
     pub roots: [u32; ROW_WORDS],

@@ -18,7 +18,7 @@ use rules::limits::{HEAD_BYTES, RECORD_BYTES, ROW_WORDS};
 use sets::Clause;
 
 // A refusal's number, line and variable; 0 each where all lines pass.
-#[derive(Drop)]
+#[derive(Clone, Copy)]
 pub struct Verdict {
     pub number: u32,
     pub line: u32,

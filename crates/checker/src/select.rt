@@ -9,7 +9,7 @@ ghost use Rattle.checker.specs.Selects.{answered, strict_select};
 use rules::limits::ROW_WORDS;
 
 // The root that is kept, or that select is not defined.
-#[derive(Drop)]
+#[derive(Clone, Copy)]
 pub enum Selected {
     Kept(u32),
     Undefined,

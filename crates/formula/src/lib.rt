@@ -1,4 +1,6 @@
 // Formula text (01) to the prefix table and the clause table.
+#![tactic(auto)]
+
 mod numbers;
 pub mod reading;
 mod states;

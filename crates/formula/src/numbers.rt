@@ -16,21 +16,21 @@ const ONE: u8 = 49;
 const NINE: u8 = 57;
 
 // What a token is where a number is to stand: its number, or a refusal with the token's offset.
-#[derive(Drop)]
+#[derive(Clone, Copy)]
 pub enum Token {
     Number(i32),
     Refused(u32, usize),
 }
 
 // A literal: a variable, and whether it stands negated.
-#[derive(Drop)]
+#[derive(Clone, Copy)]
 pub struct Literal {
     pub variable: u32,
     pub negated: bool,
 }
 
 // What a token is where a literal is to stand: variable and polarity, or a refusal with the token's offset.
-#[derive(Drop)]
+#[derive(Clone, Copy)]
 pub enum Answer {
     Literal(Literal),
     Refused(u32, usize),

@@ -15,7 +15,7 @@ use rules::limits::{BAD_TOKEN, CLAUSE_COUNT, CLAUSE_WORDS, PREFIX_WORDS};
 use sets::Clause;
 
 // What a text reads to: a refusal's number and its offset; or V, clause count and universal count.
-#[derive(Drop)]
+#[derive(Clone, Copy)]
 pub enum Outcome {
     Refused(u32, u32),
     Formula {

@@ -21,7 +21,7 @@ const LETTER_A: u8 = 97;
 const LETTER_E: u8 = 101;
 
 // What may stand next.
-#[derive(Drop)]
+#[derive(Clone, Copy)]
 pub enum Place {
     // The header's four tokens.
     Mark,
@@ -40,7 +40,7 @@ pub enum Place {
 
 // What is read so far: the header's numbers; the variables bound, how many, how many of them
 // universal; how many clauses are done.
-#[derive(Drop)]
+#[derive(Clone, Copy)]
 pub struct State {
     pub place: Place,
     pub variables: u32,
@@ -53,7 +53,7 @@ pub struct State {
 
 // What one token makes of it: a refusal with the token's offset; or the next state, with the
 // word that goes to the prefix table or the clause that goes to the clause table.
-#[derive(Drop)]
+#[derive(Clone, Copy)]
 pub enum Next {
     Refused(u32, usize),
     Go(State),

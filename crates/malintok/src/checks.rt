@@ -45,7 +45,7 @@ fn check_proof(
     counts: Reply,
 ) -> Reply
     requires { Blank lines.old nodes.old roots.old × FilledTables prefix.old counts.clauses clauses.old }
-    ensures { (F : Formula) → InTables F prefix.entry.now counts.clauses clauses.old → ProofIn F proof.now (record { prefix = prefix.entry.now; clauses = clauses.old; lines = lines.old; nodes = nodes.old; roots = roots.old }) counts result prefix.exit.now clauses.new lines.new nodes.new roots.new }
+    ensures { (F : Formula) → InTables F prefix.old counts.clauses clauses.old → ProofIn F proof.now (record { prefix = prefix.old; clauses = clauses.old; lines = lines.old; nodes = nodes.old; roots = roots.old }) counts result prefix.new clauses.new lines.new nodes.new roots.new }
 {
     let f = check::check_proof(
         proof,
@@ -75,8 +75,8 @@ pub fn check_in(
     nodes: &mut [u32],
     roots: &mut [u32],
 ) -> Reply
-    requires { (length text.now ≤ text_most) × Long (record { prefix = prefix.now; clauses = clauses.old; lines = lines.old; nodes = nodes.old; roots = roots.old }) }
-    ensures { CheckedIn text.now proof.now (record { prefix = prefix.entry.now; clauses = clauses.old; lines = lines.old; nodes = nodes.old; roots = roots.old }) result prefix.exit.now clauses.new lines.new nodes.new roots.new }
+    requires { (length text.now ≤ text_most) × Long (record { prefix = prefix.old; clauses = clauses.old; lines = lines.old; nodes = nodes.old; roots = roots.old }) }
+    ensures { CheckedIn text.now proof.now (record { prefix = prefix.old; clauses = clauses.old; lines = lines.old; nodes = nodes.old; roots = roots.old }) result prefix.new clauses.new lines.new nodes.new roots.new }
 {
     clear_maps(&mut lines[..], &mut nodes[..], &mut roots[..]);
     let o = read_in(text, &mut prefix[..], &mut clauses[..]);

@@ -1,4 +1,6 @@
-// The services, for C: read a formula, check a formula text with a proof, play one map.
+// The services: read a formula, check a formula text with a proof, play one map.
+#![tactic(auto)]
+
 mod checks;
 mod replies;
 
@@ -13,8 +15,7 @@ use rules::{Played, Reply};
 use sets::Set;
 
 // Reads a formula's text into the prefix and clause tables.
-#[unsafe(no_mangle)]
-pub extern "C" fn malintok_read(text: &[u8], prefix: &mut [u32], clauses: &mut [u64]) -> Reply
+pub fn malintok_read(text: &[u8], prefix: &mut [u32], clauses: &mut [u64]) -> Reply
     ensures { ReadCall text.now prefix.old clauses.old result prefix.new clauses.new }
 {
     if prefix.len() < PREFIX_WORDS {
@@ -30,8 +31,7 @@ pub extern "C" fn malintok_read(text: &[u8], prefix: &mut [u32], clauses: &mut [
 }
 
 // Checks a formula's text with a proof, in the five lent tables.
-#[unsafe(no_mangle)]
-pub extern "C" fn malintok_check(
+pub fn malintok_check(
     text: &[u8],
     proof: &[u8],
     prefix: &mut [u32],
@@ -40,7 +40,7 @@ pub extern "C" fn malintok_check(
     nodes: &mut [u32],
     roots: &mut [u32],
 ) -> Reply
-    ensures { CheckCall text.now proof.now (record { prefix = prefix.entry.now; clauses = clauses.old; lines = lines.old; nodes = nodes.old; roots = roots.old }) result prefix.exit.now clauses.new lines.new nodes.new roots.new }
+    ensures { CheckCall text.now proof.now (record { prefix = prefix.old; clauses = clauses.old; lines = lines.old; nodes = nodes.old; roots = roots.old }) result prefix.new clauses.new lines.new nodes.new roots.new }
 {
     if prefix.len() < PREFIX_WORDS {
         return rejected(SHORT_TABLE, 0, 0);
@@ -64,8 +64,7 @@ pub extern "C" fn malintok_check(
 }
 
 // Plays the map at a root of a column of a node table, on the settings: its value, or 41 or 42.
-#[unsafe(no_mangle)]
-pub extern "C" fn malintok_play(column: u32, root: u32, nodes: &[u32], settings: u64) -> Played
+pub fn malintok_play(column: u32, root: u32, nodes: &[u32], settings: u64) -> Played
     ensures { PlayCall column root nodes.now settings result }
 {
     maps::play(column, root, nodes, Set { word: settings })

@@ -1,5 +1,7 @@
 // Maps in a node table: a node's word and back, playing a map by its falling node numbers, and the
 // comparison of two maps of one column. A column is counted from 0 here, but in `play` from 1.
+#![tactic(auto)]
+
 ghost use Rattle.std.specs.Prelude.{◌≡◌, true, ◌+◌, ◌≤◌};
 ghost use Rattle.rules.specs.definitions.Limits.{lines_most};
 ghost use Rattle.rules.specs.definitions.Sets.{has};
@@ -88,7 +90,7 @@ pub fn node_at(nodes: &[u32], column: usize, at: u32) -> Node
 }
 
 // What one node says of the walk: it ends at a leaf, goes on at a smaller node, or is broken.
-#[derive(Drop)]
+#[derive(Clone, Copy)]
 pub enum Next {
     End(Value),
     Go(u32),
@@ -120,7 +122,7 @@ fn step(nodes: &[u32], column: usize, at: u32, settings: Set) -> Next
 }
 
 // What a walk comes to: a leaf's value, or a word that breaks it.
-#[derive(Drop)]
+#[derive(Clone, Copy)]
 pub enum Outcome {
     To(Value),
     Broken,

@@ -1,4 +1,6 @@
 // The proof file: its head, and a record of 8 bytes as a line.
+#![tactic(auto)]
+
 ghost use Rattle.std.specs.Prelude.{◌≡◌, not, ℕ, ◌+◌, ◌<◌, length};
 ghost use Rattle.rules.specs.definitions.Layout.{record_bytes};
 ghost use Rattle.rules.specs.definitions.Formula.{Formula};
@@ -12,7 +14,7 @@ use rules::limits::{
 use rules::{Decoded, Line, Resolution};
 
 // The head as examined: the number of the refusal, or the line count.
-#[derive(Drop)]
+#[derive(Clone, Copy)]
 pub enum Head {
     Fault(u32),
     Lines(u32),

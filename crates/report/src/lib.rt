@@ -1,4 +1,6 @@
 // What the bench program prints, assembled in a lent buffer.
+#![tactic(auto)]
+
 mod lines;
 mod map;
 mod nodes;
@@ -21,7 +23,7 @@ pub fn print(
     out: &mut [u8],
 ) -> usize
     requires { Room (record { prefix = prefix.now; clauses = clauses.old; lines = lines.old; nodes = nodes.old; roots = roots.old }) out.old }
-    ensures { PrintCall text.now proof.now (record { prefix = prefix.entry.now; clauses = clauses.old; lines = lines.old; nodes = nodes.old; roots = roots.old }) out.old result out.new prefix.exit.now clauses.new lines.new nodes.new roots.new }
+    ensures { PrintCall text.now proof.now (record { prefix = prefix.old; clauses = clauses.old; lines = lines.old; nodes = nodes.old; roots = roots.old }) out.old result out.new prefix.new clauses.new lines.new nodes.new roots.new }
 {
     let reply = malintok::malintok_check(
         text,

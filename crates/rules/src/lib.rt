@@ -1,9 +1,11 @@
 // The types of documents 01 and 004 that definitions and code share, and 01's numbers. The definitions are in
 // specs/; there is no code here.
+#![tactic(auto)]
+
 pub mod limits;
 
 // What a map plays: no value, 1 or 0.
-#[derive(Drop)]
+#[derive(Clone, Copy)]
 pub enum Value {
     Star,
     One,
@@ -11,7 +13,7 @@ pub enum Value {
 }
 
 // A map's node: none, a leaf, or a branch (x, a, b): at x = 0 go to a, else to b.
-#[derive(Drop)]
+#[derive(Clone, Copy)]
 pub enum Node {
     None,
     Leaf(Value),
@@ -19,7 +21,7 @@ pub enum Node {
 }
 
 // A resolution's two parents, its pivot and its merge set, universal j at bit j - 1.
-#[derive(Drop)]
+#[derive(Clone, Copy)]
 pub struct Resolution {
     pub a: u16,
     pub b: u16,
@@ -28,14 +30,14 @@ pub struct Resolution {
 }
 
 // A proof's line: an axiom with its clause number, or a resolution.
-#[derive(Drop)]
+#[derive(Clone, Copy)]
 pub enum Line {
     Axiom(u16),
     Resolve(Resolution),
 }
 
 // A record as decoded: a line, or the refusal's number.
-#[derive(Drop)]
+#[derive(Clone, Copy)]
 pub enum Decoded {
     Line(Line),
     Refused(u32),
@@ -43,7 +45,7 @@ pub enum Decoded {
 
 // The answer of reading and of checking: number 0 for success.
 #[repr(C)]
-#[derive(Drop)]
+#[derive(Clone, Copy)]
 pub struct Reply {
     pub number: u32,
     pub place: u32,
@@ -56,7 +58,7 @@ pub struct Reply {
 
 // The answer of playing: number 0 for success; value 1 star, 2 one, 3 zero, 0 with a refusal.
 #[repr(C)]
-#[derive(Drop)]
+#[derive(Clone, Copy)]
 pub struct Played {
     pub number: u32,
     pub value: u32,

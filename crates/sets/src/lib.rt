@@ -1,4 +1,6 @@
 // Sets of variables and clauses, by value. How many words a set has is known to the methods of Set alone.
+#![tactic(auto)]
+
 ghost use Rattle.std.specs.Prelude.{◌≡◌, ◌+◌, ◌*◌, ◌≤◌, length, take, drop};
 ghost use Rattle.rules.specs.definitions.Limits.{variables_most};
 ghost use Rattle.rules.specs.definitions.Layout.{set_words};
@@ -10,7 +12,7 @@ ghost use Rattle.sets.specs.Values.{put_in, clause_in, set_of, clause_of, less_p
 use rules::limits::VARIABLES_MOST;
 
 // A set of variables: variable v is bit v - 1.
-#[derive(Drop)]
+#[derive(Clone, Copy)]
 pub struct Set {
     pub word: u64,
 }
@@ -113,7 +115,7 @@ impl Set {
 }
 
 // A clause: the variables that stand in it plain, and those that stand in it negated.
-#[derive(Drop)]
+#[derive(Clone, Copy)]
 pub struct Clause {
     pub plain: Set,
     pub negated: Set,

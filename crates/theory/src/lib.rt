@@ -1,1 +1,3 @@
 // Laws and theorems about the rules; there is no code here.
+#![tactic(auto)]
+

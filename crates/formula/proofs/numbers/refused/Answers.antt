@@ -1,0 +1,10 @@
+-- `numbers::refused` meets its contract.
+use mathlib.Core.Path.{sym, ap}
+use Rattle.formula.specs.Numbers.{refused_of}
+use Rattle.formula.proofs.numbers.refused.Goals as goal
+
+pub returns-in-Number : goal.returns-in-Number
+returns-in-Number c = sym (ap refused_of c.enum_told-1.given.1)
+
+pub returns-in-Refused : goal.returns-in-Refused
+returns-in-Refused c = sym (ap refused_of c.t-1.given.1)

@@ -1,0 +1,30 @@
+-- `words::word_end` meets its contract: from each place of the loop the same place is reached.
+use mathlib.Core.Path.{◌≡◌, refl, sym, ap, ◌∙◌}
+use mathlib.Core.Bool.{not}
+use Prim.Native.Nat.{◌+◌, ◌-◌, ◌≤◌}
+use native.Mathlib.Omega.{arith}
+use lib.ListN.{length, drop}
+use Rattle.rules.specs.definitions.Text.{token_byte, lead}
+use Rattle.formula.proofs.TokenLaws.{lead_in, lead_out, lead_end}
+use Rattle.formula.proofs.words.word_end.Goals as goal
+
+pub loop-at-init : goal.loop-at-init
+loop-at-init c = (omega arith, refl)
+
+pub bounds-text-at : goal.bounds-text-at
+bounds-text-at c = omega arith
+
+pub returns-then-is_separator : goal.returns-then-is_separator
+returns-then-is_separator c = (sym (lead_out token_byte _ _ (omega arith) (ap not (sym c.is_separator.ensures ∙ c.if-is_separator.true))) ∙ c.loop-at.invariant.1, omega arith)
+
+pub overflow_add-at : goal.overflow_add-at
+overflow_add-at c = omega arith
+
+pub loop-at-smaller : goal.loop-at-smaller
+loop-at-smaller c = omega arith
+
+pub loop-at-preserved : goal.loop-at-preserved
+loop-at-preserved c = (omega arith, lead_in token_byte _ _ (omega arith) (ap not (sym c.is_separator.ensures ∙ c.if-is_separator.false)) ∙ c.loop-at.invariant.1)
+
+pub returns : goal.returns
+returns c = (sym (lead_end token_byte _ _ (omega arith)) ∙ c.loop-at.invariant.1, omega arith)
