@@ -12,7 +12,7 @@ pair_up-requires c =
 
 pub returns-then-not-pair_up : goal.returns-then-not-pair_up
 returns-then-not-pair_up c =
-    first_fails (table_column c.args.nodes.now (c.args.column + 1)) c.args.r c.args.t 1024 _ _ (answer_known c.pair_up.ensures (not-true c.pair_up.result c.if-not-pair_up.true))
+    first_fails (table_column c.args.nodes.now (c.args.column + 1)) c.args.r c.args.t 1024 _ _ (answer_known c.pair_up.ensures c.if-not-pair_up.true)
 
 pub pass_down-requires : goal.pass_down-requires
 pass_down-requires c =
@@ -21,4 +21,4 @@ pass_down-requires c =
 pub returns : goal.returns
 returns c =
     c.pass_down.ensures
-    ∙ first_holds (table_column c.args.nodes.now (c.args.column + 1)) c.args.r c.args.t 1024 _ _ (answer_known c.pair_up.ensures (not-false c.pair_up.result c.if-not-pair_up.false))
+    ∙ first_holds (table_column c.args.nodes.now (c.args.column + 1)) c.args.r c.args.t 1024 _ _ (answer_known c.pair_up.ensures c.if-not-pair_up.false)

@@ -19,13 +19,13 @@ pub returns-then-not-visit_node : goal.returns-then-not-visit_node
 returns-then-not-visit_node c =
     let g = c.loop-i in
     visit_fails (table_column c.args.nodes.now (c.args.column + 1)) c.args.top c.args.to.now c.args.from.now g.i g.to g.from g.invariant c.loop-i-test.true _ _
-    (answer_known c.visit_node.ensures (not-true c.visit_node.result c.if-not-visit_node.true))
+    (answer_known c.visit_node.ensures c.if-not-visit_node.true)
 
 pub loop-i-preserved : goal.loop-i-preserved
 loop-i-preserved c =
     let g = c.loop-i in
     going_on (table_column c.args.nodes.now (c.args.column + 1)) c.args.top c.args.to.now c.args.from.now g.i g.to g.from g.invariant c.loop-i-test.true _ _
-    (answer_known c.visit_node.ensures (not-false c.visit_node.result c.if-not-visit_node.false))
+    (answer_known c.visit_node.ensures c.if-not-visit_node.false)
 
 pub returns : goal.returns
 returns c =

@@ -6,11 +6,8 @@ use Rattle.rules.specs.definitions.Services.{table_column}
 use Rattle.maps.proofs.Pairs.{answer_known, Going, going_on, visit_fails, all_visited}
 use Rattle.maps.proofs.pass_down.Given as goal
 
--- OLD invariant-loop
-abbrev invariant-loop : tie.invariant-loop
-invariant-loop to₀ from₀ nodes column top i₀ to from i = Going (table_column nodes (column + 1)) top to₀ from₀ i to from
+abbrev pub invariant-loop-i : goal.invariant-loop-i
+invariant-loop-i l = Going (table_column l.nodes (l.column + 1)) l.top l.initial.to l.initial.from l.i l.to l.from
 
--- OLD decreases-loop
-abbrev decreases-loop : tie.decreases-loop
-decreases-loop to₀ from₀ nodes column top i₀ to from i = i
--- loops: [[["loop", "loop-i"], ["to", "from", "nodes", "column", "top", "i"]]] changed: [[true, true, false, false, false, true]]
+abbrev pub decreases-loop-i : goal.decreases-loop-i
+decreases-loop-i l = l.i

@@ -9,16 +9,6 @@ use Rattle.sets.specs.Values.{set_of}
 use Rattle.maps.proofs.Plays.{play_refuses, play_answers, answered}
 use Rattle.maps.proofs.play.Goals as goal
 
--- past every test the reply is the outcome's
-answers : (c : tie.After-follow) → let a = c.before.before.before.before.before.before.before.args in playing a.column a.root a.nodes.now (set_of a.settings) ≡ answered c.follow.result
-unfolding map_words
-answers c =
-    let a = c.before.before.before.before.before.before.before.args in
-    let l : 1 ≤ a.column = omega (arith, c.before.before.before.before.before.if1.false) in
-    play_answers a.column a.root a.nodes.now (set_of a.settings) c.follow.result l
-    (simp (le-ltb _ _ c.before.if5.false, le-ltb _ _ c.before.before.if4.false, ne_eqb _ _ c.before.before.before.if3.false, le-ltb _ _ c.before.before.before.before.if2.false, ne_eqb _ _ c.before.before.before.before.before.if1.false))
-    c.follow.ensures
-
 pub returns-then-column-eq0 : goal.returns-then-column-eq0
 returns-then-column-eq0 c =
     let a = c.args in
@@ -46,7 +36,17 @@ returns-then-nodes-lt-MAP_WORDS c =
     sym (play_refuses a.column a.root a.nodes.now (set_of a.settings) (simp (lt-ltb _ _ c.if-nodes-lt-MAP_WORDS.true, le-ltb _ _ c.if-root-gt-LINES_MOST.false, ne_eqb _ _ c.if-root-eq0.false, le-ltb _ _ c.if-column-gt-UNIVERSALS_MOST.false, ne_eqb _ _ c.if-column-eq0.false)))
 
 pub returns-in-To : goal.returns-in-To
-returns-in-To c = sym (answers @PLACE:After-follow@ ∙ ap answered c.o-1.given.1 ∙ ap (λ (n : ℕ). record { number = 0; value = n }) (sym c.value_word.ensures))
+unfolding map_words
+returns-in-To c = sym ((let a = c.args in
+    let l : 1 ≤ a.column = omega (arith, c.if-column-eq0.false) in
+    play_answers a.column a.root a.nodes.now (set_of a.settings) c.follow-o.result l
+    (simp (le-ltb _ _ c.if-nodes-lt-MAP_WORDS.false, le-ltb _ _ c.if-root-gt-LINES_MOST.false, ne_eqb _ _ c.if-root-eq0.false, le-ltb _ _ c.if-column-gt-UNIVERSALS_MOST.false, ne_eqb _ _ c.if-column-eq0.false))
+    c.follow-o.ensures) ∙ ap answered c.in-To.is ∙ ap (λ (n : ℕ). record { number = 0; value = n }) (sym c.value_word.ensures))
 
 pub returns-in-Broken : goal.returns-in-Broken
-returns-in-Broken c = sym (answers @PLACE:After-follow@ ∙ ap answered c.enum_told-1.given.1)
+unfolding map_words
+returns-in-Broken c = sym ((let a = c.args in
+    let l : 1 ≤ a.column = omega (arith, c.if-column-eq0.false) in
+    play_answers a.column a.root a.nodes.now (set_of a.settings) c.follow-o.result l
+    (simp (le-ltb _ _ c.if-nodes-lt-MAP_WORDS.false, le-ltb _ _ c.if-root-gt-LINES_MOST.false, ne_eqb _ _ c.if-root-eq0.false, le-ltb _ _ c.if-column-gt-UNIVERSALS_MOST.false, ne_eqb _ _ c.if-column-eq0.false))
+    c.follow-o.ensures) ∙ ap answered c.in-Broken.is)

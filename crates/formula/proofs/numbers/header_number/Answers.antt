@@ -7,19 +7,19 @@ use Rattle.formula.proofs.numbers.header_number.Goals as goal
 pub returns-in_default : goal.returns-in_default
 returns-in_default c =
     let a = c.args in
-    header_none a.most (number_of a.word.now) a.at _ _ _ c.enum_told-1.given.1 c.spelled_literal-a.ensures
+    header_none a.most (number_of a.word.now) a.at _ _ _ c.in_default.is c.spelled_literal-a.ensures
 
 pub returns-then-l : goal.returns-then-l
 returns-then-l c =
     let a = c.args in
-    header_negated a.most (number_of a.word.now) a.at _ (sym c.a-1.given.1 ∙ c.spelled_literal-a.ensures) c.if-l.true
+    header_negated a.most (number_of a.word.now) a.at _ (sym c.in-Literal.is ∙ c.spelled_literal-a.ensures) c.if-l.true
 
 pub returns-then-most-l : goal.returns-then-most-l
 returns-then-most-l c =
     let a = c.args in
-    header_past a.most (number_of a.word.now) a.at _ (sym c.a-1.given.1 ∙ c.spelled_literal-a.ensures) c.if-l.false c.if-most-l.true
+    header_past a.most (number_of a.word.now) a.at _ (sym c.in-Literal.is ∙ c.spelled_literal-a.ensures) c.if-l.false c.if-most-l.true
 
 pub returns : goal.returns
 returns c =
     let a = c.args in
-    header_within a.most (number_of a.word.now) a.at _ (sym c.a-1.given.1 ∙ c.spelled_literal-a.ensures) c.if-l.false c.if-most-l.false
+    header_within a.most (number_of a.word.now) a.at _ (sym c.in-Literal.is ∙ c.spelled_literal-a.ensures) c.if-l.false c.if-most-l.false

@@ -4,7 +4,7 @@ use Rattle.formula.specs.Numbers.{refused_of}
 use Rattle.formula.proofs.numbers.refused.Goals as goal
 
 pub returns-in-Number : goal.returns-in-Number
-returns-in-Number c = sym (ap refused_of c.enum_told-1.given.1)
+returns-in-Number c = sym (ap refused_of c.in-Number.is)
 
 pub returns-in-Refused : goal.returns-in-Refused
-returns-in-Refused c = sym (ap refused_of c.t-1.given.1)
+returns-in-Refused c = sym (ap refused_of c.in-Refused.is)

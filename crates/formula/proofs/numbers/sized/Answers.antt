@@ -10,8 +10,6 @@ use Rattle.rules.specs.definitions.Text.{sized}
 use Rattle.formula.proofs.NumberLaws.{same_token, sized_end, sized_low, sized_high, sized_in}
 use Rattle.formula.proofs.numbers.sized.Goals as goal
 
-)
-
 pub loop-i-init : goal.loop-i-init
 loop-i-init c = (omega arith, omega arith, refl)
 
@@ -39,6 +37,7 @@ loop-i-preserved c = (
   ap (λ (n : ℕ). sized c.args.negated n (drop (c.loop-i.i + 1) c.args.word.now)) c.grown-n.ensures.0
       ∙ sized_in _ _ _ _ c.loop-i-test.true c.if-b-lt-ZERO.false c.if-b-gt-NINE.false
       ∙ c.loop-i.invariant.2,
+)
 
 pub returns : goal.returns
 returns c =

@@ -10,11 +10,8 @@ use Rattle.rules.specs.definitions.Text.{sized}
 use Rattle.formula.proofs.NumberLaws.{same_token, sized_end, sized_low, sized_high, sized_in}
 use Rattle.formula.proofs.numbers.sized.Given as goal
 
--- OLD invariant-loop
-abbrev invariant-loop : tie.invariant-loop
-invariant-loop word from first negated at n₀ i₀ n i = (i ≤ length word) × (n ≤ number_most) × (sized negated n (drop i word) ≡ sized negated first (drop from word))
+abbrev pub invariant-loop-i : goal.invariant-loop-i
+invariant-loop-i l = (l.i ≤ length l.word) × (l.n ≤ number_most) × (sized l.negated l.n (drop l.i l.word) ≡ sized l.negated l.first (drop l.from l.word))
 
--- OLD decreases-loop
-abbrev decreases-loop : tie.decreases-loop
-decreases-loop word from first negated at n₀ i₀ n i = length word - i
--- loops: [[["loop", "loop-i"], ["word", "from", "first", "negated", "at", "n", "i"]]] changed: [[false, false, false, false, false, true, true]]
+abbrev pub decreases-loop-i : goal.decreases-loop-i
+decreases-loop-i l = length l.word - l.i

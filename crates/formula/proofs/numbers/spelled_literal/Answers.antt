@@ -24,15 +24,15 @@ pub returns-in_default : goal.returns-in_default
 returns-in_default c =
     let a = c.args in
     c.refused.ensures
-    ∙ told_refused (number_of a.word.now) a.at _ _ _ c.enum_told-1.given.1 c.number-t.ensures
+    ∙ told_refused (number_of a.word.now) a.at _ _ _ c.in_default.is c.number-t.ensures
 
 pub split-requires : goal.split-requires
 split-requires c =
     let small = spelled c in
-    rw (to_z-of_z {w = w32} {z = c.t-1.given.0.0} (record { sfits = omega arith })) small
+    rw (to_z-of_z {w = w32} {z = c.in-Number.n} (record { sfits = omega arith })) small
 
 pub returns : goal.returns
 returns c =
     let small = spelled @PLACE:After-known_told@ in
-    ap A.Literal (c.split.ensures ∙ ap literal_of (to_z-of_z {w = w32} {z = c.t-1.given.0.0} (record { sfits = omega arith })))
+    ap A.Literal (c.split.ensures ∙ ap literal_of (to_z-of_z {w = w32} {z = c.in-Number.n} (record { sfits = omega arith })))
     ∙ sym (ap (λ (n : Number). answer_of n c.args.at) (said @PLACE:After-known_told@))

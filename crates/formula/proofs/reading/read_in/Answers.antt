@@ -31,7 +31,7 @@ read_tokens-r-requires c =
 
 pub returns-in_default : goal.returns-in_default
 unfolding prefix_words clause_words
-returns-in_default c = left_formula c.args.text.now c.args.prefix.now c.args.clauses.now c.clear.new.0 c.clear_wide.new.0 c.read_tokens-r.new.1.1.0 c.read_tokens-r.new.1.1.1.0 c.body-from.result c.read_tokens-r.result c.clear.ensures c.clear_wide.ensures c.body-from.ensures.0 c.read_tokens-r.ensures _ _ _ c.enum_told-1.given.1
+returns-in_default c = left_formula c.args.text.now c.args.prefix.now c.args.clauses.now c.clear.new.0 c.clear_wide.new.0 c.read_tokens-r.new.1.1.0 c.read_tokens-r.new.1.1.1.0 c.body-from.result c.read_tokens-r.result c.clear.ensures c.clear_wide.ensures c.body-from.ensures.0 c.read_tokens-r.ensures _ _ _ c.in_default.is
 
 pub clear-requires-2 : goal.clear-requires-2
 unfolding prefix_words clause_words
@@ -43,4 +43,4 @@ clear_wide-requires-2 c = omega (arith, c.read_tokens-r.auto.1.1.1.0, c.requires
 
 pub returns : goal.returns
 unfolding prefix_words clause_words
-returns c = left_refused c.args.text.now c.args.prefix.now c.args.clauses.now c.clear.new.0 c.clear_wide.new.0 c.read_tokens-r.new.1.1.0 c.read_tokens-r.new.1.1.1.0 c.body-from.result c.read_tokens-r.result c.clear.ensures c.clear_wide.ensures c.body-from.ensures.0 c.read_tokens-r.ensures _ _ _ _ c.r-1.given.1 c.clear-2.ensures c.clear_wide-2.ensures
+returns c = left_refused c.args.text.now c.args.prefix.now c.args.clauses.now c.clear.new.0 c.clear_wide.new.0 c.read_tokens-r.new.1.1.0 c.read_tokens-r.new.1.1.1.0 c.body-from.result c.read_tokens-r.result c.clear.ensures c.clear_wide.ensures c.body-from.ensures.0 c.read_tokens-r.ensures _ _ _ _ c.in-Refused.is c.clear-2.ensures c.clear_wide-2.ensures

@@ -15,7 +15,6 @@ token c = record {
   ends = c.before.before.before.word-end.ensures.0;
   skips = c.skip2.ensures.0;
   within = c.skip2.ensures.1;
-
 }
 
 longer : (c : tie.After-skip2 invariant-loop decreases-loop) → c.before.before.before.before.before.loop.at < c.before.before.before.word-end.result
@@ -37,7 +36,7 @@ pub skip-past-requires : goal.skip-past-requires
 skip-past-requires c = c.word_end-end.ensures.1
 
 pub overflow_cast-result : goal.overflow_cast-result
-overflow_cast-result c = let e = refused_here c.args.text.now c.args.from c.args.prefix.now c.args.clauses.now c.loop-at.prefix c.loop-at.clauses c.loop-at.at c.word_end-end.result c.skip-past.result c.loop-at.s c.step-next.result c.loop-at.invariant (token @PLACE:After-skip2@) c.step-next.ensures _ _ c.next-1.given.1 in record { fits = omega (arith, c.loop-at-test.true, c.requires.1) }
+overflow_cast-result c = let e = refused_here c.args.text.now c.args.from c.args.prefix.now c.args.clauses.now c.loop-at.prefix c.loop-at.clauses c.loop-at.at c.word_end-end.result c.skip-past.result c.loop-at.s c.step-next.result c.loop-at.invariant (token @PLACE:After-skip2@) c.step-next.ensures _ _ c.in-Refused.is in record { fits = omega (arith, c.loop-at-test.true, c.requires.1) }
 
 pub shape_of-prefix-in-Refused : goal.shape_of-prefix-in-Refused
 shape_of-prefix-in-Refused c = prefix_length c.args.text.now c.args.from c.args.prefix.now c.args.clauses.now c.loop-at.prefix c.loop-at.clauses c.loop-at.at c.loop-at.s c.loop-at.invariant c.requires.2
@@ -46,40 +45,40 @@ pub shape_of-clauses-in-Refused : goal.shape_of-clauses-in-Refused
 shape_of-clauses-in-Refused c = clauses_length c.args.text.now c.args.from c.args.prefix.now c.args.clauses.now c.loop-at.prefix c.loop-at.clauses c.loop-at.at c.loop-at.s c.loop-at.invariant c.requires.3
 
 pub returns-in-Refused : goal.returns-in-Refused
-returns-in-Refused c = filled_refused c.args.text.now c.args.from c.args.prefix.now c.args.clauses.now c.loop-at.prefix c.loop-at.clauses c.loop-at.at c.word_end-end.result c.skip-past.result c.loop-at.s c.step-next.result c.loop-at.invariant (token @PLACE:After-skip2@) c.step-next.ensures _ _ c.next-1.given.1
+returns-in-Refused c = filled_refused c.args.text.now c.args.from c.args.prefix.now c.args.clauses.now c.loop-at.prefix c.loop-at.clauses c.loop-at.at c.word_end-end.result c.skip-past.result c.loop-at.s c.step-next.result c.loop-at.invariant (token @PLACE:After-skip2@) c.step-next.ensures _ _ c.in-Refused.is
 
 pub loop-at-smaller-in-Go : goal.loop-at-smaller-in-Go
 loop-at-smaller-in-Go c = let t = token @PLACE:After-skip2@ in omega (arith, t.within, t.skips, longer @PLACE:After-skip2@)
 
 pub loop-at-preserved-in-Go : goal.loop-at-preserved-in-Go
-loop-at-preserved-in-Go c = held_go c.args.text.now c.args.from c.args.prefix.now c.args.clauses.now c.loop-at.prefix c.loop-at.clauses c.loop-at.at c.word_end-end.result c.skip-past.result c.loop-at.s c.step-next.result c.loop-at.invariant (token @PLACE:After-skip2@) c.step-next.ensures _ c.next-in-Go-1.given.1
+loop-at-preserved-in-Go c = held_go c.args.text.now c.args.from c.args.prefix.now c.args.clauses.now c.loop-at.prefix c.loop-at.clauses c.loop-at.at c.word_end-end.result c.skip-past.result c.loop-at.s c.step-next.result c.loop-at.invariant (token @PLACE:After-skip2@) c.step-next.ensures _ c.in-Go.is
 
 pub overflow_cast-i : goal.overflow_cast-i
-overflow_cast-i c = let h = bind_room c.args.text.now c.args.from c.args.prefix.now c.args.clauses.now c.loop-at.prefix c.loop-at.clauses c.loop-at.at c.word_end-end.result c.skip-past.result c.loop-at.s c.step-next.result c.loop-at.invariant (token @PLACE:After-skip2@) c.step-next.ensures _ _ c.next-in-Bind-1.given.1 in record { fits = omega arith }
+overflow_cast-i c = let h = bind_room c.args.text.now c.args.from c.args.prefix.now c.args.clauses.now c.loop-at.prefix c.loop-at.clauses c.loop-at.at c.word_end-end.result c.skip-past.result c.loop-at.s c.step-next.result c.loop-at.invariant (token @PLACE:After-skip2@) c.step-next.ensures _ _ c.in-Bind.is in record { fits = omega arith }
 
 pub offset_bounds-prefix-i : goal.offset_bounds-prefix-i
-offset_bounds-prefix-i c = let h = bind_room c.args.text.now c.args.from c.args.prefix.now c.args.clauses.now c.loop-at.prefix c.loop-at.clauses c.loop-at.at c.word_end-end.result c.skip-past.result c.loop-at.s c.step-next.result c.loop-at.invariant (token @PLACE:After-skip2@) c.step-next.ensures _ _ c.next-in-Bind-1.given.1 in record { fits = omega arith }
+offset_bounds-prefix-i c = let h = bind_room c.args.text.now c.args.from c.args.prefix.now c.args.clauses.now c.loop-at.prefix c.loop-at.clauses c.loop-at.at c.word_end-end.result c.skip-past.result c.loop-at.s c.step-next.result c.loop-at.invariant (token @PLACE:After-skip2@) c.step-next.ensures _ _ c.in-Bind.is in record { fits = omega arith }
 
 pub bounds-prefix-i : goal.bounds-prefix-i
-bounds-prefix-i c = omega (arith, bind_room c.args.text.now c.args.from c.args.prefix.now c.args.clauses.now c.loop-at.prefix c.loop-at.clauses c.loop-at.at c.word_end-end.result c.skip-past.result c.loop-at.s c.step-next.result c.loop-at.invariant (token @PLACE:After-skip2@) c.step-next.ensures _ _ c.next-in-Bind-1.given.1, prefix_length c.args.text.now c.args.from c.args.prefix.now c.args.clauses.now c.loop-at.prefix c.loop-at.clauses c.loop-at.at c.loop-at.s c.loop-at.invariant c.requires.2, c.requires.2)
+bounds-prefix-i c = omega (arith, bind_room c.args.text.now c.args.from c.args.prefix.now c.args.clauses.now c.loop-at.prefix c.loop-at.clauses c.loop-at.at c.word_end-end.result c.skip-past.result c.loop-at.s c.step-next.result c.loop-at.invariant (token @PLACE:After-skip2@) c.step-next.ensures _ _ c.in-Bind.is, prefix_length c.args.text.now c.args.from c.args.prefix.now c.args.clauses.now c.loop-at.prefix c.loop-at.clauses c.loop-at.at c.loop-at.s c.loop-at.invariant c.requires.2, c.requires.2)
 
 pub loop-at-smaller-in-Bind : goal.loop-at-smaller-in-Bind
 loop-at-smaller-in-Bind c = let t = token @PLACE:After-skip2@ in omega (arith, t.within, t.skips, longer @PLACE:After-skip2@)
 
 pub loop-at-preserved-in-Bind : goal.loop-at-preserved-in-Bind
-loop-at-preserved-in-Bind c = held_bind c.args.text.now c.args.from c.args.prefix.now c.args.clauses.now c.loop-at.prefix c.loop-at.clauses c.loop-at.at c.word_end-end.result c.skip-past.result c.loop-at.s c.step-next.result c.loop-at.invariant (token @PLACE:After-skip2@) c.step-next.ensures _ _ c.next-in-Bind-1.given.1 c.requires.2
+loop-at-preserved-in-Bind c = held_bind c.args.text.now c.args.from c.args.prefix.now c.args.clauses.now c.loop-at.prefix c.loop-at.clauses c.loop-at.at c.word_end-end.result c.skip-past.result c.loop-at.s c.step-next.result c.loop-at.invariant (token @PLACE:After-skip2@) c.step-next.ensures _ _ c.in-Bind.is c.requires.2
 
 pub overflow_cast-i-in-Ended : goal.overflow_cast-i-in-Ended
-overflow_cast-i-in-Ended c = let h = ended_room c.args.text.now c.args.from c.args.prefix.now c.args.clauses.now c.loop-at.prefix c.loop-at.clauses c.loop-at.at c.word_end-end.result c.skip-past.result c.loop-at.s c.step-next.result c.loop-at.invariant (token @PLACE:After-skip2@) c.step-next.ensures _ _ c.next-in-Ended-1.given.1 in record { fits = omega arith }
+overflow_cast-i-in-Ended c = let h = ended_room c.args.text.now c.args.from c.args.prefix.now c.args.clauses.now c.loop-at.prefix c.loop-at.clauses c.loop-at.at c.word_end-end.result c.skip-past.result c.loop-at.s c.step-next.result c.loop-at.invariant (token @PLACE:After-skip2@) c.step-next.ensures _ _ c.in-Ended.is in record { fits = omega arith }
 
 pub put_clause-requires : goal.put_clause-requires
-put_clause-requires c = omega (arith, ended_room c.args.text.now c.args.from c.args.prefix.now c.args.clauses.now c.loop-at.prefix c.loop-at.clauses c.loop-at.at c.word_end-end.result c.skip-past.result c.loop-at.s c.step-next.result c.loop-at.invariant (token @PLACE:After-skip2@) c.step-next.ensures _ _ c.next-in-Ended-1.given.1, clauses_length c.args.text.now c.args.from c.args.prefix.now c.args.clauses.now c.loop-at.prefix c.loop-at.clauses c.loop-at.at c.loop-at.s c.loop-at.invariant c.requires.3, c.requires.3)
+put_clause-requires c = omega (arith, ended_room c.args.text.now c.args.from c.args.prefix.now c.args.clauses.now c.loop-at.prefix c.loop-at.clauses c.loop-at.at c.word_end-end.result c.skip-past.result c.loop-at.s c.step-next.result c.loop-at.invariant (token @PLACE:After-skip2@) c.step-next.ensures _ _ c.in-Ended.is, clauses_length c.args.text.now c.args.from c.args.prefix.now c.args.clauses.now c.loop-at.prefix c.loop-at.clauses c.loop-at.at c.loop-at.s c.loop-at.invariant c.requires.3, c.requires.3)
 
 pub loop-at-smaller : goal.loop-at-smaller
 loop-at-smaller c = let t = token @PLACE:After-skip2@ in omega (arith, t.within, t.skips, longer @PLACE:After-skip2@)
 
 pub loop-at-preserved : goal.loop-at-preserved
-loop-at-preserved c = held_ended c.args.text.now c.args.from c.args.prefix.now c.args.clauses.now c.loop-at.prefix c.loop-at.clauses c.loop-at.at c.word_end-end.result c.skip-past.result c.loop-at.s c.step-next.result c.loop-at.invariant (token @PLACE:After-skip2@) c.step-next.ensures _ _ _ _ c.next-in-Ended-1.given.1 refl c.put_clause.ensures
+loop-at-preserved c = held_ended c.args.text.now c.args.from c.args.prefix.now c.args.clauses.now c.loop-at.prefix c.loop-at.clauses c.loop-at.at c.word_end-end.result c.skip-past.result c.loop-at.s c.step-next.result c.loop-at.invariant (token @PLACE:After-skip2@) c.step-next.ensures _ _ _ _ c.in-Ended.is refl c.put_clause.ensures
 
 pub finish-requires : goal.finish-requires
 finish-requires c = c.requires.1

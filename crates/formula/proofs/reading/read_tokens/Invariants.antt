@@ -7,11 +7,8 @@ use Rattle.formula.proofs.TokenLaws.{token_long}
 use Rattle.formula.proofs.ReadingLaws.{TokenAt, Held, held_begin, held_small, held_go, held_bind, held_ended, bind_room, ended_room, prefix_length, clauses_length, refused_here, filled_refused, filled_ended}
 use Rattle.formula.proofs.reading.read_tokens.Given as goal
 
--- OLD invariant-loop
-abbrev invariant-loop : tie.invariant-loop
-invariant-loop text from prefix₀ clauses₀ at₀ s₀ prefix clauses at s = Held text from prefix₀ clauses₀ prefix clauses at s
+abbrev pub invariant-loop-at : goal.invariant-loop-at
+invariant-loop-at l = Held l.text l.from l.initial.prefix l.initial.clauses l.prefix l.clauses l.at l.s
 
--- OLD decreases-loop
-abbrev decreases-loop : tie.decreases-loop
-decreases-loop text from prefix₀ clauses₀ at₀ s₀ prefix clauses at s = length text - at
--- loops: [[["loop", "loop-at"], ["text", "from", "prefix", "clauses", "at", "s"]]] changed: [[false, false, true, true, true, true]]
+abbrev pub decreases-loop-at : goal.decreases-loop-at
+decreases-loop-at l = length l.text - l.at

@@ -17,28 +17,28 @@ returns-in_default c =
     let a = c.args in
     let n = number_of a.word.now in
     λ bs cs st.
-    after_none a.at bs cs (clause_token (state_of a.s bs cs) (clause_of a.c) n) n _ _ _ _ c.refused.ensures c.enum_told-1.given.1 c.spelled_literal-a.ensures (clause_none (state_of a.s bs cs) (clause_of a.c) n)
+    after_none a.at bs cs (clause_token (state_of a.s bs cs) (clause_of a.c) n) n _ _ _ _ c.refused.ensures c.in_default.is c.spelled_literal-a.ensures (clause_none (state_of a.s bs cs) (clause_of a.c) n)
 
 pub returns-then-v-eq0 : goal.returns-then-v-eq0
 returns-then-v-eq0 c =
     let a = c.args in
     let n = number_of a.word.now in
     λ bs cs st.
-    after_ended a.at a.s _ bs cs (clause_token (state_of a.s bs cs) (clause_of a.c) n) st a.c c.ended.ensures c.requires.1 (clause_over (state_of a.s bs cs) (clause_of a.c) n a.at _ (sym c.a-1.given.1 ∙ c.spelled_literal-a.ensures) c.if-v-eq0.true)
+    after_ended a.at a.s _ bs cs (clause_token (state_of a.s bs cs) (clause_of a.c) n) st a.c c.ended.ensures c.requires.1 (clause_over (state_of a.s bs cs) (clause_of a.c) n a.at _ (sym c.in-Literal.is ∙ c.spelled_literal-a.ensures) c.if-v-eq0.true)
 
 pub returns-then-s-v : goal.returns-then-s-v
 returns-then-s-v c =
     let a = c.args in
     let n = number_of a.word.now in
     λ bs cs st.
-    (clause_past (state_of a.s bs cs) (clause_of a.c) n a.at _ (sym c.a-1.given.1 ∙ c.spelled_literal-a.ensures) c.if-v-eq0.false c.if-s-v.true, refl)
+    (clause_past (state_of a.s bs cs) (clause_of a.c) n a.at _ (sym c.in-Literal.is ∙ c.spelled_literal-a.ensures) c.if-v-eq0.false c.if-s-v.true, refl)
 
 pub returns-then-has_opposite : goal.returns-then-has_opposite
 returns-then-has_opposite c =
     let a = c.args in
     let n = number_of a.word.now in
     λ bs cs st.
-    (clause_both (state_of a.s bs cs) (clause_of a.c) n a.at _ (sym c.a-1.given.1 ∙ c.spelled_literal-a.ensures) c.if-v-eq0.false c.if-s-v.false (sym (st.known _) ∙ sym c.has.ensures ∙ c.if-has.true) (sym c.has_opposite.ensures ∙ c.if-has_opposite.true), refl)
+    (clause_both (state_of a.s bs cs) (clause_of a.c) n a.at _ (sym c.in-Literal.is ∙ c.spelled_literal-a.ensures) c.if-v-eq0.false c.if-s-v.false (sym (st.known _) ∙ sym c.has.ensures ∙ c.if-has.true) (sym c.has_opposite.ensures ∙ c.if-has_opposite.true), refl)
 
 pub returns-then-has : goal.returns-then-has
 returns-then-has c =
@@ -46,7 +46,7 @@ returns-then-has c =
     let n = number_of a.word.now in
     λ bs cs st.
     after_moved a.at a.s _ bs cs (clause_token (state_of a.s bs cs) (clause_of a.c) n) st (P.InClause c.with.result) c.moved.ensures c.requires.1
-    (clause_more (state_of a.s bs cs) (clause_of a.c) n a.at _ (sym c.a-1.given.1 ∙ c.spelled_literal-a.ensures) c.if-v-eq0.false c.if-s-v.false (sym (st.known _) ∙ sym c.has.ensures ∙ c.if-has.true) (sym c.has_opposite.ensures ∙ c.if-has_opposite.false)
+    (clause_more (state_of a.s bs cs) (clause_of a.c) n a.at _ (sym c.in-Literal.is ∙ c.spelled_literal-a.ensures) c.if-v-eq0.false c.if-s-v.false (sym (st.known _) ∙ sym c.has.ensures ∙ c.if-has.true) (sym c.has_opposite.ensures ∙ c.if-has_opposite.false)
     ∙ ap (λ (d : Clause). go (moved (state_of a.s bs cs) (in_clause d))) (sym c.with.ensures))
 
 pub returns : goal.returns
@@ -54,4 +54,4 @@ returns c =
     let a = c.args in
     let n = number_of a.word.now in
     λ bs cs st.
-    (clause_unbound (state_of a.s bs cs) (clause_of a.c) n a.at _ (sym c.a-1.given.1 ∙ c.spelled_literal-a.ensures) c.if-v-eq0.false c.if-s-v.false (sym (st.known _) ∙ sym c.has.ensures ∙ c.if-has.false), refl)
+    (clause_unbound (state_of a.s bs cs) (clause_of a.c) n a.at _ (sym c.in-Literal.is ∙ c.spelled_literal-a.ensures) c.if-v-eq0.false c.if-s-v.false (sym (st.known _) ∙ sym c.has.ensures ∙ c.if-has.false), refl)

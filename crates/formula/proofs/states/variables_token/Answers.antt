@@ -11,11 +11,11 @@ use Rattle.formula.proofs.states.variables_token.Goals as goal
 pub returns-in_default : goal.returns-in_default
 returns-in_default c =
     let a = c.args in
-    λ bs cs st. after_header a.at bs cs variables_most (with_variables (state_of a.s bs cs)) (number_of a.word.now) _ _ _ _ c.refused.ensures c.enum_told-1.given.1 c.header_number-a.ensures
+    λ bs cs st. after_header a.at bs cs variables_most (with_variables (state_of a.s bs cs)) (number_of a.word.now) _ _ _ _ c.refused.ensures c.in_default.is c.header_number-a.ensures
 
 pub returns : goal.returns
 returns c =
     let a = c.args in
     λ bs cs st.
-    let t = limited_header variables_most (with_variables (state_of a.s bs cs)) (number_of a.word.now) a.at _ (sym c.a-1.given.1 ∙ c.header_number-a.ensures) in
+    let t = limited_header variables_most (with_variables (state_of a.s bs cs)) (number_of a.word.now) a.at _ (sym c.in-Literal.is ∙ c.header_number-a.ensures) in
     (t.0, stands_variables a.s bs cs st _ t.1 c.requires)

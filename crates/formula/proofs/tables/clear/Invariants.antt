@@ -10,11 +10,8 @@ use Rattle.theory.specs.laws.Tables.{holding_none}
 use lib.ListN.{length, set, drop, replicate, length-set}
 use Rattle.formula.proofs.tables.clear.Given as goal
 
--- OLD invariant-loop
-abbrev invariant-loop : tie.invariant-loop
-invariant-loop table₀ n i₀ table i = (i ≤ n) × (table ≡ replicate i 0 ++ drop i table₀) × (length table ≡ length table₀)
+abbrev pub invariant-loop-i : goal.invariant-loop-i
+invariant-loop-i l = (l.i ≤ l.n) × (l.table ≡ replicate l.i 0 ++ drop l.i l.initial.table) × (length l.table ≡ length l.initial.table)
 
--- OLD decreases-loop
-abbrev decreases-loop : tie.decreases-loop
-decreases-loop table₀ n i₀ table i = n - i
--- loops: [[["loop", "loop-i"], ["table", "n", "i"]]] changed: [[true, false, true]]
+abbrev pub decreases-loop-i : goal.decreases-loop-i
+decreases-loop-i l = l.n - l.i

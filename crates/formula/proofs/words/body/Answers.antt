@@ -11,14 +11,6 @@ use Rattle.formula.proofs.words.body.Goals as goal
 known : (c : tie.At-loop invariant-loop decreases-loop) (b : Bool) → c.loop.inside ≡ b → rest_at b c.before.before.args.text.now c.loop.at ≡ rest_at false c.before.before.args.text.now 0
 known c b e = ap (λ (t : Bool). rest_at t c.before.before.args.text.now c.loop.at) (sym e) ∙ c.loop.invariant.1
 
-)
-
-)
-
-)
-
-)
-
 pub loop-at-init : goal.loop-at-init
 loop-at-init c = (omega arith, refl)
 
@@ -43,6 +35,7 @@ loop-at-preserved-else-b-eq-LINE_FEED c = (
   ap (λ (t : Bool). rest_at t c.args.text.now (c.loop-at.at + 1)) c.if-inside.true
       ∙ comment_on _ _ c.loop-at-test.true c.if-b-eq-LINE_FEED.false
       ∙ known @PLACE:At-loop@ true c.if-inside.true,
+)
 
 pub loop-at-smaller-then-is_separator : goal.loop-at-smaller-then-is_separator
 loop-at-smaller-then-is_separator c = omega arith
@@ -53,6 +46,7 @@ loop-at-preserved-then-is_separator c = (
   ap (λ (t : Bool). rest_at t c.args.text.now (c.loop-at.at + 1)) c.if-inside.false
       ∙ separator_passed _ _ c.loop-at-test.true (sym c.is_separator.ensures ∙ c.if-is_separator.true)
       ∙ known @PLACE:At-loop@ false c.if-inside.false,
+)
 
 pub loop-at-smaller : goal.loop-at-smaller
 loop-at-smaller c = omega arith
@@ -62,12 +56,14 @@ loop-at-preserved c = (
   omega arith,
   comment_begins _ _ c.loop-at-test.true (sym c.is_separator.ensures ∙ c.if-is_separator.false) c.if-b-eq-LETTER_C.true
       ∙ known @PLACE:At-loop@ false c.if-inside.false,
+)
 
 pub returns-else-b-eq-LETTER_C : goal.returns-else-b-eq-LETTER_C
 returns-else-b-eq-LETTER_C c = (
   comments_over _ _ c.loop-at-test.true (sym c.is_separator.ensures ∙ c.if-is_separator.false) c.if-b-eq-LETTER_C.false
       ∙ known @PLACE:At-loop@ false c.if-inside.false,
   omega arith,
+)
 
 pub returns : goal.returns
 returns c = (comments_end _ _ _ c.loop-at-test.false ∙ c.loop-at.invariant.1, omega arith)

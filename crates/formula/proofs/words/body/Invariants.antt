@@ -7,11 +7,8 @@ use lib.ListN.{length}
 use Rattle.formula.proofs.TokenLaws.{rest_at, comment_ends, comment_on, separator_passed, comment_begins, comments_over, comments_end}
 use Rattle.formula.proofs.words.body.Given as goal
 
--- OLD invariant-loop
-abbrev invariant-loop : tie.invariant-loop
-invariant-loop text at₀ inside₀ at inside = (at ≤ length text) × (rest_at inside text at ≡ rest_at false text 0)
+abbrev pub invariant-loop-at : goal.invariant-loop-at
+invariant-loop-at l = (l.at ≤ length l.text) × (rest_at l.inside l.text l.at ≡ rest_at false l.text 0)
 
--- OLD decreases-loop
-abbrev decreases-loop : tie.decreases-loop
-decreases-loop text at₀ inside₀ at inside = length text - at
--- loops: [[["loop", "loop-at"], ["text", "at", "inside"]]] changed: [[false, true, true]]
+abbrev pub decreases-loop-at : goal.decreases-loop-at
+decreases-loop-at l = length l.text - l.at

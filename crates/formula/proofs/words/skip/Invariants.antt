@@ -7,11 +7,8 @@ use Rattle.rules.specs.definitions.Text.{separator, lead}
 use Rattle.formula.proofs.TokenLaws.{lead_in, lead_out, lead_end}
 use Rattle.formula.proofs.words.skip.Given as goal
 
--- OLD invariant-loop
-abbrev invariant-loop : tie.invariant-loop
-invariant-loop s from at₀ at = (at ≤ length s) × (at + lead separator (drop at s) ≡ from + lead separator (drop from s))
+abbrev pub invariant-loop-at : goal.invariant-loop-at
+invariant-loop-at l = (l.at ≤ length l.text) × (l.at + lead separator (drop l.at l.text) ≡ l.from + lead separator (drop l.from l.text))
 
--- OLD decreases-loop
-abbrev decreases-loop : tie.decreases-loop
-decreases-loop s from at₀ at = length s - at
--- loops: [[["loop", "loop-at"], ["text", "from", "at"]]] changed: [[false, false, true]]
+abbrev pub decreases-loop-at : goal.decreases-loop-at
+decreases-loop-at l = length l.text - l.at

@@ -8,11 +8,8 @@ use Rattle.rules.specs.definitions.Text.{token_byte, lead}
 use Rattle.formula.proofs.TokenLaws.{lead_in, lead_out, lead_end}
 use Rattle.formula.proofs.words.word_end.Given as goal
 
--- OLD invariant-loop
-abbrev invariant-loop : tie.invariant-loop
-invariant-loop s from at₀ at = (at ≤ length s) × (at + lead token_byte (drop at s) ≡ from + lead token_byte (drop from s))
+abbrev pub invariant-loop-at : goal.invariant-loop-at
+invariant-loop-at l = (l.at ≤ length l.text) × (l.at + lead token_byte (drop l.at l.text) ≡ l.from + lead token_byte (drop l.from l.text))
 
--- OLD decreases-loop
-abbrev decreases-loop : tie.decreases-loop
-decreases-loop s from at₀ at = length s - at
--- loops: [[["loop", "loop-at"], ["text", "from", "at"]]] changed: [[false, false, true]]
+abbrev pub decreases-loop-at : goal.decreases-loop-at
+decreases-loop-at l = length l.text - l.at
