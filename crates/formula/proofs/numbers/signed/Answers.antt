@@ -11,7 +11,7 @@ opposite-requires c = rw (to_z_pos w32 {n = c.args.n} (omega arith)) c.requires
 
 pub returns-then-negated : goal.returns-then-negated
 returns-then-negated c =
-    rw (to_z-of_z {w = w32} {z = c.opposite.result} (record { sfits = c.opposite.type-inv }), c.if-negated.true)
+    rw (to_z-of_z {w = w32} {z = c.opposite.result} (record { sfits = c.opposite.type_inv }), c.if-negated.true)
     (c.opposite.ensures ∙ ap neg_ℤ (to_z_pos w32 {n = c.args.n} (omega arith)))
 
 pub returns-else-negated : goal.returns-else-negated

@@ -41,5 +41,5 @@ loop-i-preserved c = (
 
 pub returns : goal.returns
 returns c =
-    rw (to_z-of_z {w = w32} {z = c.signed.result} (record { sfits = c.signed.type-inv }), c.signed.ensures)
+    rw (to_z-of_z {w = w32} {z = c.signed.result} (record { sfits = c.signed.type_inv }), c.signed.ensures)
     (same_token _ (sym (sized_end _ _ _ _ c.loop-i-test.false) ∙ c.loop-i.invariant.2))

@@ -14,3 +14,6 @@ offset_bounds-clauses-at c = rw (row_width c.words-width.result c.words-width.en
 
 pub returns : goal.returns
 returns c = row_back c.args.clauses.now _ _ c.words-width.result c.args.done (row_width c.words-width.result c.words-width.ensures) c.write.ensures
+
+pub slice_bounds-write-end : goal.slice_bounds-write-end
+slice_bounds-write-end c = rw (row_width c.words-width.result c.words-width.ensures) c.requires

@@ -19,8 +19,8 @@ pub read_tokens-r-requires : goal.read_tokens-r-requires
 unfolding prefix_words clause_words
 read_tokens-r-requires c =
     let a = c.args in
-    let p : List ℕ = c.clear.new.0 in
-    let q : List ℕ = c.clear_wide.new.0 in (
+    let p : List ℕ = c.clear.new.table in
+    let q : List ℕ = c.clear_wide.new.table in (
       c.body-from.ensures.1,
       c.requires.0,
       omega (arith, c.requires.1, cleared_length prefix_words a.prefix.now p c.requires.1 c.clear.ensures),
@@ -31,16 +31,16 @@ read_tokens-r-requires c =
 
 pub returns-in_default : goal.returns-in_default
 unfolding prefix_words clause_words
-returns-in_default c = left_formula c.args.text.now c.args.prefix.now c.args.clauses.now c.clear.new.0 c.clear_wide.new.0 c.read_tokens-r.new.1.1.0 c.read_tokens-r.new.1.1.1.0 c.body-from.result c.read_tokens-r.result c.clear.ensures c.clear_wide.ensures c.body-from.ensures.0 c.read_tokens-r.ensures _ _ _ c.in_default.is
+returns-in_default c = left_formula c.args.text.now c.args.prefix.now c.args.clauses.now c.clear.new.table c.clear_wide.new.table c.read_tokens-r.new.prefix c.read_tokens-r.new.clauses c.body-from.result c.read_tokens-r.result c.clear.ensures c.clear_wide.ensures c.body-from.ensures.0 c.read_tokens-r.ensures _ _ _ c.in_default.is
 
 pub clear-requires-2 : goal.clear-requires-2
 unfolding prefix_words clause_words
-clear-requires-2 c = omega (arith, c.read_tokens-r.auto.1.1.0, c.requires.1, cleared_length prefix_words c.args.prefix.now c.clear.new.0 c.requires.1 c.clear.ensures)
+clear-requires-2 c = omega (arith, c.read_tokens-r.auto.prefix, c.requires.1, cleared_length prefix_words c.args.prefix.now c.clear.new.table c.requires.1 c.clear.ensures)
 
 pub clear_wide-requires-2 : goal.clear_wide-requires-2
 unfolding prefix_words clause_words
-clear_wide-requires-2 c = omega (arith, c.read_tokens-r.auto.1.1.1.0, c.requires.2, cleared_length clause_words c.args.clauses.now c.clear_wide.new.0 c.requires.2 c.clear_wide.ensures)
+clear_wide-requires-2 c = omega (arith, c.read_tokens-r.auto.clauses, c.requires.2, cleared_length clause_words c.args.clauses.now c.clear_wide.new.table c.requires.2 c.clear_wide.ensures)
 
 pub returns : goal.returns
 unfolding prefix_words clause_words
-returns c = left_refused c.args.text.now c.args.prefix.now c.args.clauses.now c.clear.new.0 c.clear_wide.new.0 c.read_tokens-r.new.1.1.0 c.read_tokens-r.new.1.1.1.0 c.body-from.result c.read_tokens-r.result c.clear.ensures c.clear_wide.ensures c.body-from.ensures.0 c.read_tokens-r.ensures _ _ _ _ c.in-Refused.is c.clear-2.ensures c.clear_wide-2.ensures
+returns c = left_refused c.args.text.now c.args.prefix.now c.args.clauses.now c.clear.new.table c.clear_wide.new.table c.read_tokens-r.new.prefix c.read_tokens-r.new.clauses c.body-from.result c.read_tokens-r.result c.clear.ensures c.clear_wide.ensures c.body-from.ensures.0 c.read_tokens-r.ensures _ _ _ _ c.in-Refused.is c.clear-2.ensures c.clear_wide-2.ensures
