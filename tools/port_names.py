@@ -3,7 +3,7 @@
 
 Words are in snake case, types in upper camel case. A name is the repository's own where it is declared in specs/ or in a
 file right in proofs/; there, in the sources' clauses, in the proofs, in the must-fail edits and in the pages' code it is
-respelled. `ground`, a tactic today, is `third_ground`; `bit-or` and `bit-and` would fall together with words of std. Generated names and Rust's names stay as they are.
+respelled. `ground`, a tactic today, is `third_ground`; `bit-or` and `bit-and` would fall together with words of std, and `Maps-made` with a struct. Generated names and Rust's names stay as they are.
 """
 import os
 import re
@@ -15,7 +15,7 @@ BINDER = re.compile(r"[({]([^\s:(){},;=]+(?:\s+[^\s:(){},;=]+)*)\s+:\s")
 ALIAS = re.compile(r"\bas ([^\s,}]+)")
 IMPORT = re.compile(r"use ([^\s{]+)\.\{([^}]*)\}")
 SHAPE = re.compile(r"^\s*(?:pub\s+)?(?:data|record)\s+([^\s:(){}]+)")
-WORDS = {"ground": "third_ground", "bit-or": "bit_of_or", "bit-and": "bit_of_and"}
+WORDS = {"ground": "third_ground", "bit-or": "bit_of_or", "bit-and": "bit_of_and", "Maps-made": "MakesMaps"}
 
 
 def walk(root, *ends):

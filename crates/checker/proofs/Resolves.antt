@@ -27,7 +27,7 @@ use Rattle.checker.specs.declared.maps_row.MapsMade.{MapsMade}
 use Rattle.checker.specs.Rows.{clause_part}
 use Rattle.checker.specs.Makes.{Makes, Standing, Ready}
 use Rattle.checker.specs.Resolutions.{table_result, clause_tests, Joins}
-use Rattle.checker.specs.MapRows.{Resolving, MapsMade}
+use Rattle.checker.specs.MapRows.{Resolving, MakesMaps}
 use Rattle.theory.specs.laws.Tables.{Wide, table_part}
 
 -- ---- tests in a row: the first part decides, or passes and leaves it to the second
@@ -164,20 +164,20 @@ module _ (R : Rules) (F : Formula) (rows : List Row) (g : Game) (clauses lines l
         by (fails k w) t K = absurd (omega (arith, K.0, K.1))
 
     -- maps that are refused
-    pub unmapped_line : (o : MapsMade) (m : Made) → first_of tests ≡ passes → MapsMade (first_of maps) entries o → (o.refusal ≡ 0 → ⊥)
+    pub unmapped_line : (o : MapsMade) (m : Made) → first_of tests ≡ passes → MakesMaps (first_of maps) entries o → (o.refusal ≡ 0 → ⊥)
         → m.refusal ≡ o.refusal → m.variable ≡ o.variable → Makes (line_made R F rows i (L.Resolve r)) m
     unmapped_line o m p M n e v = by (first_of maps) refl M
       where
-        by : (t : Found) → first_of maps ≡ t → MapsMade t entries o → Makes (line_made R F rows i (L.Resolve r)) m
+        by : (t : Found) → first_of maps ≡ t → MakesMaps t entries o → Makes (line_made R F rows i (L.Resolve r)) m
         by passes t K = absurd (n K.0)
         by (fails k w) t K = rw (made_by (fails k w) (faults_maps p ∙ t)) (e ∙ K.0, v ∙ K.1, K.2)
 
     -- the line's row
-    pub mapped_line : (o : MapsMade) (m : Made) → first_of tests ≡ passes → MapsMade (first_of maps) entries o → o.refusal ≡ 0
+    pub mapped_line : (o : MapsMade) (m : Made) → first_of tests ≡ passes → MakesMaps (first_of maps) entries o → o.refusal ≡ 0
         → m.refusal ≡ 0 → clause_of m.clause ≡ result rows r → m.row ≡ o.row → Makes (line_made R F rows i (L.Resolve r)) m
     unfolding resolution_row
     mapped_line o m p M z e c w = by (first_of maps) refl M
       where
-        by : (t : Found) → first_of maps ≡ t → MapsMade t entries o → Makes (line_made R F rows i (L.Resolve r)) m
+        by : (t : Found) → first_of maps ≡ t → MakesMaps t entries o → Makes (line_made R F rows i (L.Resolve r)) m
         by passes t K = rw (made_by passes (faults_maps p ∙ t)) (e, c, rw w K.1)
         by (fails k w) t K = absurd (omega (arith, K.0, K.2))

@@ -67,10 +67,10 @@ Gets R F rows r i j u m =
     Enters (map_fault R rows r (in_set r.merge) j u).when (map_fault R rows r (in_set r.merge) j u).number (map_entry R rows i r (in_set r.merge) j u) m
 
 -- the row of all entries, or the first fault's number and variable
-abbrev pub MapsMade : Found → List Entry → MapsMade → Type 0
-MapsMade passes es m = (m.refusal ≡ 0) × RowOf es m.row
-MapsMade (fails n v) es m = (m.refusal ≡ n) × (m.variable ≡ v) × (1 ≤ n)
+abbrev pub MakesMaps : Found → List Entry → MapsMade → Type 0
+MakesMaps passes es m = (m.refusal ≡ 0) × RowOf es m.row
+MakesMaps (fails n v) es m = (m.refusal ≡ n) × (m.variable ≡ v) × (1 ≤ n)
 
 -- what all universals get
 abbrev pub AllGet : Rules → Formula → List Row → Resolution → ℕ → MapsMade → Type 0
-AllGet R F rows r i m = MapsMade (first_of (map_faults R F rows r (in_set r.merge))) (each (map_entry R rows i r (in_set r.merge)) (universals F.prefix) 0) m
+AllGet R F rows r i m = MakesMaps (first_of (map_faults R F rows r (in_set r.merge))) (each (map_entry R rows i r (in_set r.merge)) (universals F.prefix) 0) m

@@ -1,0 +1,17 @@
+-- `checker::game::game_of` meets its contract. The invariant: the first i variables of the prefix are bound.
+use mathlib.Core.Path.{◌≡◌, refl, ap, ◌∙◌}
+use native.Mathlib.Omega.{arith}
+use Rattle.rules.specs.definitions.Formula.{Formula}
+use Rattle.sets.specs.Values.{set_of}
+use Rattle.checker.specs.Game.{Prefixed, BoundFirst}
+use Prim.Native.Nat.{◌≤◌, ◌-◌}
+use lib.ListN.{length}
+use Rattle.rules.specs.definitions.Layout.{prefix_words}
+use Rattle.checker.proofs.Games.{narrow_at, prefix_fits, word_inside, word_outside, universal_room, first_next, game_whole}
+use Rattle.checker.proofs.game.game_of.Given as goal
+
+abbrev pub invariant-loop-i : goal.invariant-loop-i
+invariant-loop-i l = (l.i ≤ 64) × (set_of l.g.existentials ≡ set_of l.initial.g.existentials) × (l.g.count ≡ l.count) × ((F : Formula) → Prefixed F l.prefix → (l.i ≤ length F.prefix) × BoundFirst F.prefix l.i l.g)
+
+abbrev pub decreases-loop-i : goal.decreases-loop-i
+decreases-loop-i l = 64 - l.i
