@@ -1,0 +1,14 @@
+-- `report::text::put` meets its contract. The loop's invariant: out is what it was with the bytes before i pasted in at its place.
+use mathlib.Core.Path.{◌≡◌, refl}
+use Prim.Native.Nat.{◌≤◌, ◌-◌}
+use native.Mathlib.Omega.{arith}
+use lib.ListN.{length, length-set}
+use lib.Seq.{paste, paste-zero}
+use Rattle.report.proofs.Laws.{turn, all_pasted}
+use Rattle.report.proofs.text.put.Given as goal
+
+abbrev pub invariant-loop-i : goal.invariant-loop-i
+invariant-loop-i l = (l.out ≡ paste l.initial.out l.at l.bytes l.i) × (l.i ≤ length l.bytes) × (length l.out ≡ length l.initial.out)
+
+abbrev pub decreases-loop-i : goal.decreases-loop-i
+decreases-loop-i l = length l.bytes - l.i
