@@ -2,23 +2,24 @@
 // is run in, or two files named as arguments.
 #![tactic(auto)]
 
-ghost use Rattle.std.specs.Prelude.{◌≡◌, length};
-ghost use Rattle.io.specs.Counts.{IsPrefixLen};
+ghost use Rattle.std.specs.Prelude.{◌≡◌, ◌≤◌, length, take};
 
-use libc::STDOUT_FILENO;
 use rules::limits::{CLAUSE_WORDS, LINE_WORDS, MAP_WORDS, PREFIX_WORDS};
+use std::env::{Env, FillError};
+use std::fs::File;
+use std::io::{Read, Write};
+use std::{io, str};
 
 // Reads to the end of the input or of buf: how many bytes. 0 where a read fails.
-fn fill(fd: i32, buf: &mut [u8]) -> usize
-    ensures { IsPrefixLen result buf.new }
+fn fill(file: &mut File, buf: &mut [u8]) -> usize
+    ensures within { result ≤ length buf.new }
+    ensures taken { result ≡ length (take result buf.new) }
 {
     let mut done = 0;
     while done < buf.len() {
-        let got = libc::read(fd, &mut buf[done..]);
-        if got < 0 {
+        let Ok(n) = file.read(&mut buf[done..]) else {
             return 0;
-        }
-        let n = io::count(got, &buf[done..]);
+        };
         if n == 0 {
             return done;
         }
@@ -28,32 +29,37 @@ fn fill(fd: i32, buf: &mut [u8]) -> usize
 }
 
 // The file's bytes in buf, as far as it goes: how many. A file that cannot be read counts as empty.
-fn read_file(path: &[u8], buf: &mut [u8]) -> usize
-    ensures { IsPrefixLen result buf.new }
+fn read_file(rt: &HostRuntime, path: &str, buf: &mut [u8]) -> usize
+    ensures within { result ≤ length buf.new }
+    ensures taken { result ≡ length (take result buf.new) }
 {
-    let fd = os::open_read(path);
-    if fd < 0 {
+    let Ok(mut file) = File::open(rt, path) else {
         return 0;
-    }
-    let n = fill(fd, &mut buf[..]);
-    libc::close(fd);
-    n
+    };
+    fill(&mut file, buf)
 }
 
-// The file that argument i names where two are given, else the usual one.
-fn read_named(i: usize, usual: &[u8], buf: &mut [u8]) -> usize
-    ensures { IsPrefixLen result buf.new }
+// The file that argument i names where two are given, else the usual one. A name that is no path, since it is
+// too long or not UTF-8, names a file that cannot be read.
+fn read_named(rt: &HostRuntime, i: usize, usual: &str, buf: &mut [u8]) -> usize
+    ensures within { result ≤ length buf.new }
+    ensures taken { result ≡ length (take result buf.new) }
 {
-    if os::arg_count() < 3 {
-        return read_file(usual, buf);
+    let mut path = [0u8; 4096];
+    if let Err(FillError::NotPresent) = rt.arg(2, &mut path) {
+        return read_file(rt, usual, buf);
     }
-    let mut path = io::buffer();
-    let n = os::arg(i, &mut path);
-    read_file(&path[..n], buf)
+    let Ok(n) = rt.arg(i, &mut path) else {
+        return 0;
+    };
+    let Ok(name) = str::from_utf8(&path[..n]) else {
+        return 0;
+    };
+    read_file(rt, name, buf)
 }
 
 // Prints the report of a text and a proof.
-fn show(text: &[u8], proof: &[u8]) {
+fn show(rt: &HostRuntime, text: &[u8], proof: &[u8]) -> io::Result<()> {
     let mut prefix = [0u32; PREFIX_WORDS];
     let mut clauses = [0u64; CLAUSE_WORDS];
     let mut lines = [0u64; LINE_WORDS];
@@ -70,7 +76,7 @@ fn show(text: &[u8], proof: &[u8]) {
         &mut roots,
         &mut out,
     );
-    io::write_all(STDOUT_FILENO, &out[..n]);
+    io::writer(rt).write_all(&out[..n])
 }
 
 // One byte past the longest text: a text that is cut is refused all the same.
@@ -87,10 +93,10 @@ fn proof_room() -> [u8; 524288]
     [0; 524288]
 }
 
-fn main() {
+fn main(rt: HostRuntime) -> io::Result<()> {
     let mut text = text_room();
     let mut proof = proof_room();
-    let t = read_named(1, b"game.qdimacs", &mut text);
-    let p = read_named(2, b"game.mrp", &mut proof);
-    show(&text[..t], &proof[..p]);
+    let t = read_named(&rt, 1, "game.qdimacs", &mut text);
+    let p = read_named(&rt, 2, "game.mrp", &mut proof);
+    show(&rt, &text[..t], &proof[..p])
 }

@@ -2,40 +2,40 @@
 // equality families, and refused games. For each its name, the reply's numbers, and what is printed.
 #![tactic(auto)]
 
-ghost use Rattle.io.specs.Counts.{IsPrefixLen};
+ghost use Rattle.std.specs.Prelude.{◌≡◌, ◌≤◌, length, take};
 
-use libc::STDOUT_FILENO;
 use rules::Reply;
 use rules::limits::{CLAUSE_WORDS, LINE_WORDS, MAP_WORDS, PREFIX_WORDS};
+use std::io;
+use std::io::Write;
 
 // A number behind a space.
-fn number(n: u32) {
-    io::write_all(STDOUT_FILENO, b" ");
-    io::print_decimal(STDOUT_FILENO, n as u64);
+fn number(rt: &HostRuntime, n: u32) -> io::Result<()> {
+    print!(rt; " {n}")
 }
 
 // A case's name and the numbers of its reply.
-fn line(name: &[u8], r: Reply) {
-    io::write_all(STDOUT_FILENO, name);
-    io::write_all(STDOUT_FILENO, b":");
-    number(r.number);
-    number(r.place);
-    number(r.variable);
-    number(r.variables);
-    number(r.clauses);
-    number(r.universals);
-    number(r.lines);
-    io::write_all(STDOUT_FILENO, b"\n");
+fn line(rt: &HostRuntime, name: &str, r: Reply) -> io::Result<()> {
+    print!(rt; "{name}:")?;
+    number(rt, r.number)?;
+    number(rt, r.place)?;
+    number(rt, r.variable)?;
+    number(rt, r.variables)?;
+    number(rt, r.clauses)?;
+    number(rt, r.universals)?;
+    number(rt, r.lines)?;
+    println!(rt; "")
 }
 
 // The reply of reading a text.
-fn read(name: &[u8], text: &[u8]) {
+fn read(rt: &HostRuntime, name: &str, text: &[u8]) -> io::Result<()> {
     let mut prefix = [0u32; PREFIX_WORDS];
     let mut clauses = [0u64; CLAUSE_WORDS];
     line(
+        rt,
         name,
         malintok::malintok_read(text, &mut prefix, &mut clauses),
-    );
+    )
 }
 
 // The reply of checking a text with a proof.
@@ -57,7 +57,7 @@ fn answer(text: &[u8], proof: &[u8]) -> Reply {
 }
 
 // What is printed for a text and a proof.
-fn show(text: &[u8], proof: &[u8]) {
+fn show(rt: &HostRuntime, text: &[u8], proof: &[u8]) -> io::Result<()> {
     let mut prefix = [0u32; PREFIX_WORDS];
     let mut clauses = [0u64; CLAUSE_WORDS];
     let mut lines = [0u64; LINE_WORDS];
@@ -74,18 +74,19 @@ fn show(text: &[u8], proof: &[u8]) {
         &mut roots,
         &mut out,
     );
-    io::write_all(STDOUT_FILENO, &out[..n]);
+    io::writer(rt).write_all(&out[..n])
 }
 
 // Both of them.
-fn checked(name: &[u8], text: &[u8], proof: &[u8]) {
-    line(name, answer(text, proof));
-    show(text, proof);
+fn checked(rt: &HostRuntime, name: &str, text: &[u8], proof: &[u8]) -> io::Result<()> {
+    line(rt, name, answer(text, proof))?;
+    show(rt, text, proof)
 }
 
 // A file of n lines, each an axiom of clause 1: its length. At most 1,025 lines, in 8,207 bytes.
 fn axioms(n: usize, proof: &mut [u8]) -> usize
-    ensures { IsPrefixLen result proof.new }
+    ensures within { result ≤ length proof.new }
+    ensures taken { result ≡ length (take result proof.new) }
 {
     if 1025 < n {
         return 0;
@@ -109,167 +110,190 @@ fn axioms(n: usize, proof: &mut [u8]) -> usize
 }
 
 // So many axioms of the first clause, which has one universal variable.
-fn many(name: &[u8], n: usize) {
+fn many(rt: &HostRuntime, name: &str, n: usize) -> io::Result<()> {
     let mut proof = [0u8; 8207];
     let k = axioms(n, &mut proof);
-    checked(name, b"p cnf 1 1 a 1 0 1 0", &proof[..k]);
+    checked(rt, name, b"p cnf 1 1 a 1 0 1 0", &proof[..k])
 }
 
 // Texts (01: V = 64 read, 65 is 4; clause `1 -1 0` is 9).
-fn texts() {
+fn texts(rt: &HostRuntime) -> io::Result<()> {
     read(
-        b"variables-64",
+        rt,
+        "variables-64",
         b"p cnf 64 2 a 1 2 3 4 5 6 7 8 9 10 11 12 13 14 15 16 0 e 17 18 19 20 21 22 23 24 25 26 27 28 29 30 31 32 33 34 35 36 37 38 39 40 41 42 43 44 45 46 47 48 49 50 51 52 53 54 55 56 57 58 59 60 61 62 63 64 0 -64 1 0 64 16 0",
-    );
+    )?;
     read(
-        b"variables-65",
+        rt,
+        "variables-65",
         b"p cnf 65 2 a 1 2 3 4 5 6 7 8 9 10 11 12 13 14 15 16 0 e 17 18 19 20 21 22 23 24 25 26 27 28 29 30 31 32 33 34 35 36 37 38 39 40 41 42 43 44 45 46 47 48 49 50 51 52 53 54 55 56 57 58 59 60 61 62 63 64 0 -64 1 0 64 16 0",
-    );
-    read(b"both-ways", b"p cnf 1 1 e 1 0 1 -1 0");
+    )?;
+    read(rt, "both-ways", b"p cnf 1 1 e 1 0 1 -1 0")
 }
 
 // The game G; its own number or a later one as a parent; no merge where the maps differ.
-fn games() {
+fn games(rt: &HostRuntime) -> io::Result<()> {
     checked(
-        b"game",
+        rt,
+        "game",
         b"p cnf 3 3 e 1 0 a 2 0 e 3 0 1 2 3 0 -1 -2 3 0 -3 0",
         b"MRP\x01\x00\x05\x00\x01\x01\x00\x00\x00\x00\x00\x00\x01\x02\x00\x00\x00\x00\x00\x00\x01\x03\x00\x00\x00\x00\x00\x00\x02\x01\x00\x02\x00\x01\x01\x00\x02\x04\x00\x03\x00\x03\x00\x00",
-    );
+    )?;
     checked(
-        b"own-parent",
+        rt,
+        "own-parent",
         b"p cnf 3 3 e 1 0 a 2 0 e 3 0 1 2 3 0 -1 -2 3 0 -3 0",
         b"MRP\x01\x00\x05\x00\x01\x01\x00\x00\x00\x00\x00\x00\x01\x02\x00\x00\x00\x00\x00\x00\x01\x03\x00\x00\x00\x00\x00\x00\x02\x04\x00\x02\x00\x01\x01\x00\x02\x04\x00\x03\x00\x03\x00\x00",
-    );
+    )?;
     checked(
-        b"later-parent",
+        rt,
+        "later-parent",
         b"p cnf 3 3 e 1 0 a 2 0 e 3 0 1 2 3 0 -1 -2 3 0 -3 0",
         b"MRP\x01\x00\x05\x00\x01\x01\x00\x00\x00\x00\x00\x00\x01\x02\x00\x00\x00\x00\x00\x00\x01\x03\x00\x00\x00\x00\x00\x00\x02\x01\x00\x05\x00\x01\x01\x00\x02\x04\x00\x03\x00\x03\x00\x00",
-    );
+    )?;
     checked(
-        b"no-select",
+        rt,
+        "no-select",
         b"p cnf 3 3 e 1 0 a 2 0 e 3 0 1 2 3 0 -1 -2 3 0 -3 0",
         b"MRP\x01\x00\x05\x00\x01\x01\x00\x00\x00\x00\x00\x00\x01\x02\x00\x00\x00\x00\x00\x00\x01\x03\x00\x00\x00\x00\x00\x00\x02\x01\x00\x02\x00\x01\x00\x00\x02\x04\x00\x03\x00\x03\x00\x00",
-    );
+    )
 }
 
 // G with an absent universal, a pivot right of the universal, its parents exchanged, no end.
-fn refused() {
+fn refused(rt: &HostRuntime) -> io::Result<()> {
     checked(
-        b"absent-universal",
+        rt,
+        "absent-universal",
         b"p cnf 3 3 e 1 0 a 2 0 e 3 0 1 2 3 0 -1 -2 3 0 -3 0",
         b"MRP\x01\x00\x05\x00\x01\x01\x00\x00\x00\x00\x00\x00\x01\x02\x00\x00\x00\x00\x00\x00\x01\x03\x00\x00\x00\x00\x00\x00\x02\x01\x00\x02\x00\x01\x02\x00\x02\x04\x00\x03\x00\x03\x00\x00",
-    );
+    )?;
     checked(
-        b"pivot-right-of-burst",
+        rt,
+        "pivot-right-of-burst",
         b"p cnf 3 3 e 1 0 a 2 0 e 3 0 1 2 3 0 -1 -2 3 0 -3 0",
         b"MRP\x01\x00\x05\x00\x01\x01\x00\x00\x00\x00\x00\x00\x01\x02\x00\x00\x00\x00\x00\x00\x01\x03\x00\x00\x00\x00\x00\x00\x02\x01\x00\x02\x00\x01\x01\x00\x02\x04\x00\x03\x00\x03\x01\x00",
-    );
+    )?;
     checked(
-        b"parents-exchanged",
+        rt,
+        "parents-exchanged",
         b"p cnf 3 3 e 1 0 a 2 0 e 3 0 1 2 3 0 -1 -2 3 0 -3 0",
         b"MRP\x01\x00\x05\x00\x01\x01\x00\x00\x00\x00\x00\x00\x01\x02\x00\x00\x00\x00\x00\x00\x01\x03\x00\x00\x00\x00\x00\x00\x02\x02\x00\x01\x00\x01\x01\x00\x02\x04\x00\x03\x00\x03\x00\x00",
-    );
+    )?;
     checked(
-        b"not-empty",
+        rt,
+        "not-empty",
         b"p cnf 3 3 e 1 0 a 2 0 e 3 0 1 2 3 0 -1 -2 3 0 -3 0",
         b"MRP\x01\x00\x04\x00\x01\x01\x00\x00\x00\x00\x00\x00\x01\x02\x00\x00\x00\x00\x00\x00\x01\x03\x00\x00\x00\x00\x00\x00\x02\x01\x00\x02\x00\x01\x01\x00",
-    );
+    )
 }
 
 // An empty clause that is not the last; branches over two stars, which are no star leaf.
-fn stars() {
+fn stars(rt: &HostRuntime) -> io::Result<()> {
     checked(
-        b"empty-earlier",
+        rt,
+        "empty-earlier",
         b"p cnf 3 3 e 1 0 a 2 0 e 3 0 1 2 3 0 -1 -2 3 0 -3 0",
         b"MRP\x01\x00\x06\x00\x01\x01\x00\x00\x00\x00\x00\x00\x01\x02\x00\x00\x00\x00\x00\x00\x01\x03\x00\x00\x00\x00\x00\x00\x02\x01\x00\x02\x00\x01\x01\x00\x02\x04\x00\x03\x00\x03\x00\x00\x01\x01\x00\x00\x00\x00\x00\x00",
-    );
+    )?;
     checked(
-        b"star-branch",
+        rt,
+        "star-branch",
         b"p cnf 3 3 e 1 0 a 2 0 e 3 0 1 3 0 -1 3 0 -3 0",
         b"MRP\x01\x00\x05\x00\x01\x01\x00\x00\x00\x00\x00\x00\x01\x02\x00\x00\x00\x00\x00\x00\x02\x01\x00\x02\x00\x01\x01\x00\x01\x03\x00\x00\x00\x00\x00\x00\x02\x03\x00\x04\x00\x03\x00\x00",
-    );
+    )?;
     checked(
-        b"star-branch-kept",
+        rt,
+        "star-branch-kept",
         b"p cnf 3 3 e 1 0 a 2 0 e 3 0 1 3 0 -1 3 0 2 -3 0",
         b"MRP\x01\x00\x05\x00\x01\x01\x00\x00\x00\x00\x00\x00\x01\x02\x00\x00\x00\x00\x00\x00\x02\x01\x00\x02\x00\x01\x01\x00\x01\x03\x00\x00\x00\x00\x00\x00\x02\x03\x00\x04\x00\x03\x00\x00",
-    );
+    )
 }
 
 // 01, the branch (1,p,p) against (1,q,r), either first; a merge on a pivot right of the universal.
-fn ends() {
+fn ends(rt: &HostRuntime) -> io::Result<()> {
     checked(
-        b"one-end-twice",
+        rt,
+        "one-end-twice",
         b"p cnf 4 5 e 1 2 0 a 3 0 e 4 0 2 3 4 0 1 -2 0 -1 -2 0 1 3 -4 0 -1 3 -4 0",
         b"MRP\x01\x00\x0a\x00\x01\x01\x00\x00\x00\x00\x00\x00\x01\x02\x00\x00\x00\x00\x00\x00\x01\x03\x00\x00\x00\x00\x00\x00\x02\x01\x00\x02\x00\x02\x00\x00\x02\x01\x00\x03\x00\x02\x00\x00\x02\x04\x00\x05\x00\x01\x01\x00\x01\x04\x00\x00\x00\x00\x00\x00\x01\x05\x00\x00\x00\x00\x00\x00\x02\x07\x00\x08\x00\x01\x01\x00\x02\x06\x00\x09\x00\x04\x00\x00",
-    );
+    )?;
     checked(
-        b"two-ends-first",
+        rt,
+        "two-ends-first",
         b"p cnf 4 5 e 1 2 0 a 3 0 e 4 0 2 3 -4 0 1 -2 0 -1 -2 0 1 3 4 0 -1 3 4 0",
         b"MRP\x01\x00\x0a\x00\x01\x01\x00\x00\x00\x00\x00\x00\x01\x02\x00\x00\x00\x00\x00\x00\x01\x03\x00\x00\x00\x00\x00\x00\x02\x01\x00\x02\x00\x02\x00\x00\x02\x01\x00\x03\x00\x02\x00\x00\x02\x04\x00\x05\x00\x01\x01\x00\x01\x04\x00\x00\x00\x00\x00\x00\x01\x05\x00\x00\x00\x00\x00\x00\x02\x07\x00\x08\x00\x01\x01\x00\x02\x09\x00\x06\x00\x04\x00\x00",
-    );
+    )?;
     checked(
-        b"late",
+        rt,
+        "late",
         b"p cnf 2 2 a 2 0 e 1 0 1 2 0 -1 -2 0",
         b"MRP\x01\x00\x03\x00\x01\x01\x00\x00\x00\x00\x00\x00\x01\x02\x00\x00\x00\x00\x00\x00\x02\x01\x00\x02\x00\x01\x01\x00",
-    );
+    )
 }
 
 // 004, Examples 15 and 16.
-fn examples() {
+fn examples(rt: &HostRuntime) -> io::Result<()> {
     checked(
-        b"example15",
+        rt,
+        "example15",
         b"p cnf 6 6 e 1 2 3 0 a 4 0 e 5 6 0 3 2 4 0 -3 2 -4 0 -2 4 5 0 1 -5 0 -2 6 0 -1 -6 0",
         b"MRP\x01\x00\x0c\x00\x01\x01\x00\x00\x00\x00\x00\x00\x01\x02\x00\x00\x00\x00\x00\x00\x02\x01\x00\x02\x00\x03\x01\x00\x01\x03\x00\x00\x00\x00\x00\x00\x02\x03\x00\x04\x00\x02\x01\x00\x01\x04\x00\x00\x00\x00\x00\x00\x02\x05\x00\x06\x00\x05\x00\x00\x01\x05\x00\x00\x00\x00\x00\x00\x02\x03\x00\x08\x00\x02\x00\x00\x01\x06\x00\x00\x00\x00\x00\x00\x02\x09\x00\x0a\x00\x06\x00\x00\x02\x07\x00\x0b\x00\x01\x01\x00",
-    );
+    )?;
     checked(
-        b"example16",
+        rt,
+        "example16",
         b"p cnf 3 4 e 1 0 a 2 0 e 3 0 1 2 3 0 -1 -2 3 0 1 2 -3 0 -1 -2 -3 0",
         b"MRP\x01\x00\x07\x00\x01\x01\x00\x00\x00\x00\x00\x00\x01\x02\x00\x00\x00\x00\x00\x00\x02\x01\x00\x02\x00\x01\x01\x00\x01\x03\x00\x00\x00\x00\x00\x00\x01\x04\x00\x00\x00\x00\x00\x00\x02\x04\x00\x05\x00\x01\x01\x00\x02\x03\x00\x06\x00\x03\x00\x00",
-    );
+    )
 }
 
 // 004, Definition 2: the equality formulas for 1 to 3.
-fn equality() {
+fn equality(rt: &HostRuntime) -> io::Result<()> {
     checked(
-        b"eq1",
+        rt,
+        "eq1",
         b"p cnf 3 3 e 1 0 a 2 0 e 3 0 1 2 3 0 -1 -2 3 0 -3 0",
         b"MRP\x01\x00\x05\x00\x01\x01\x00\x00\x00\x00\x00\x00\x01\x02\x00\x00\x00\x00\x00\x00\x02\x01\x00\x02\x00\x01\x01\x00\x01\x03\x00\x00\x00\x00\x00\x00\x02\x03\x00\x04\x00\x03\x00\x00",
-    );
+    )?;
     checked(
-        b"eq2",
+        rt,
+        "eq2",
         b"p cnf 6 5 e 1 2 0 a 3 4 0 e 5 6 0 1 3 5 0 -1 -3 5 0 2 4 6 0 -2 -4 6 0 -5 -6 0",
         b"MRP\x01\x00\x09\x00\x01\x01\x00\x00\x00\x00\x00\x00\x01\x02\x00\x00\x00\x00\x00\x00\x02\x01\x00\x02\x00\x01\x01\x00\x01\x03\x00\x00\x00\x00\x00\x00\x01\x04\x00\x00\x00\x00\x00\x00\x02\x04\x00\x05\x00\x02\x02\x00\x01\x05\x00\x00\x00\x00\x00\x00\x02\x03\x00\x07\x00\x05\x00\x00\x02\x06\x00\x08\x00\x06\x00\x00",
-    );
+    )?;
     checked(
-        b"eq3",
+        rt,
+        "eq3",
         b"p cnf 9 7 e 1 2 3 0 a 4 5 6 0 e 7 8 9 0 1 4 7 0 -1 -4 7 0 2 5 8 0 -2 -5 8 0 3 6 9 0 -3 -6 9 0 -7 -8 -9 0",
         b"MRP\x01\x00\x0d\x00\x01\x01\x00\x00\x00\x00\x00\x00\x01\x02\x00\x00\x00\x00\x00\x00\x02\x01\x00\x02\x00\x01\x01\x00\x01\x03\x00\x00\x00\x00\x00\x00\x01\x04\x00\x00\x00\x00\x00\x00\x02\x04\x00\x05\x00\x02\x02\x00\x01\x05\x00\x00\x00\x00\x00\x00\x01\x06\x00\x00\x00\x00\x00\x00\x02\x07\x00\x08\x00\x03\x04\x00\x01\x07\x00\x00\x00\x00\x00\x00\x02\x03\x00\x0a\x00\x07\x00\x00\x02\x06\x00\x0b\x00\x08\x00\x00\x02\x09\x00\x0c\x00\x09\x00\x00",
-    );
+    )
 }
 
 // 004, Definition 22: the squared equality formulas for 1 and 2.
-fn squared() {
+fn squared(rt: &HostRuntime) -> io::Result<()> {
     checked(
-        b"eq1-squared",
+        rt,
+        "eq1-squared",
         b"p cnf 5 5 e 1 2 0 a 3 4 0 e 5 0 1 2 3 4 5 0 -1 2 -3 4 5 0 1 -2 3 -4 5 0 -1 -2 -3 -4 5 0 -5 0",
         b"MRP\x01\x00\x09\x00\x01\x01\x00\x00\x00\x00\x00\x00\x01\x02\x00\x00\x00\x00\x00\x00\x01\x03\x00\x00\x00\x00\x00\x00\x01\x04\x00\x00\x00\x00\x00\x00\x02\x01\x00\x03\x00\x02\x02\x00\x02\x02\x00\x04\x00\x02\x02\x00\x02\x05\x00\x06\x00\x01\x01\x00\x01\x05\x00\x00\x00\x00\x00\x00\x02\x07\x00\x08\x00\x05\x00\x00",
-    );
+    )?;
     checked(
-        b"eq2-squared",
+        rt,
+        "eq2-squared",
         b"p cnf 12 17 e 1 2 3 4 0 a 5 6 7 8 0 e 9 10 11 12 0 1 2 5 6 9 0 -1 2 -5 6 9 0 1 -2 5 -6 9 0 -1 -2 -5 -6 9 0 1 4 5 8 10 0 -1 4 -5 8 10 0 1 -4 5 -8 10 0 -1 -4 -5 -8 10 0 3 2 7 6 11 0 -3 2 -7 6 11 0 3 -2 7 -6 11 0 -3 -2 -7 -6 11 0 3 4 7 8 12 0 -3 4 -7 8 12 0 3 -4 7 -8 12 0 -3 -4 -7 -8 12 0 -9 -10 -11 -12 0",
         b"MRP\x01\x00!\x00\x01\x01\x00\x00\x00\x00\x00\x00\x01\x05\x00\x00\x00\x00\x00\x00\x01\x09\x00\x00\x00\x00\x00\x00\x01\x0d\x00\x00\x00\x00\x00\x00\x01\x02\x00\x00\x00\x00\x00\x00\x01\x06\x00\x00\x00\x00\x00\x00\x01\x0a\x00\x00\x00\x00\x00\x00\x01\x0e\x00\x00\x00\x00\x00\x00\x01\x03\x00\x00\x00\x00\x00\x00\x01\x07\x00\x00\x00\x00\x00\x00\x01\x0b\x00\x00\x00\x00\x00\x00\x01\x0f\x00\x00\x00\x00\x00\x00\x01\x04\x00\x00\x00\x00\x00\x00\x01\x08\x00\x00\x00\x00\x00\x00\x01\x0c\x00\x00\x00\x00\x00\x00\x01\x10\x00\x00\x00\x00\x00\x00\x02\x01\x00\x09\x00\x02\x02\x00\x02\x02\x00\x0a\x00\x04\x08\x00\x02\x03\x00\x0b\x00\x02\x02\x00\x02\x04\x00\x0c\x00\x04\x08\x00\x02\x05\x00\x0d\x00\x02\x02\x00\x02\x06\x00\x0e\x00\x04\x08\x00\x02\x07\x00\x0f\x00\x02\x02\x00\x02\x08\x00\x10\x00\x04\x08\x00\x02\x11\x00\x15\x00\x01\x01\x00\x02\x12\x00\x16\x00\x01\x01\x00\x02\x13\x00\x17\x00\x03\x04\x00\x02\x14\x00\x18\x00\x03\x04\x00\x01\x11\x00\x00\x00\x00\x00\x00\x02\x19\x00\x1d\x00\x09\x00\x00\x02\x1a\x00\x1e\x00\x0a\x00\x00\x02\x1b\x00\x1f\x00\x0b\x00\x00\x02\x1c\x00 \x00\x0c\x00\x00",
-    );
+    )
 }
 
-fn main() {
-    texts();
-    many(b"lines-1024", 1024);
-    many(b"lines-1025", 1025);
-    games();
-    refused();
-    stars();
-    ends();
-    examples();
-    equality();
-    squared();
+fn main(rt: HostRuntime) -> io::Result<()> {
+    texts(&rt)?;
+    many(&rt, "lines-1024", 1024)?;
+    many(&rt, "lines-1025", 1025)?;
+    games(&rt)?;
+    refused(&rt)?;
+    stars(&rt)?;
+    ends(&rt)?;
+    examples(&rt)?;
+    equality(&rt)?;
+    squared(&rt)
 }

@@ -1,0 +1,16 @@
+-- `bench::show` is safe: no table is short, and there is room for the report.
+use native.Mathlib.Omega.{arith}
+use lib.Dec.{lit≤}
+use Rattle.rules.specs.definitions.Layout.{prefix_words, clause_words, line_words, map_words}
+use Rattle.bench.proofs.show.Goals as goal
+
+pub print-n-requires : goal.print-n-requires
+unfolding prefix_words clause_words line_words map_words
+print-n-requires c = record {
+  prefix = lit≤ tt;
+  clauses = lit≤ tt;
+  lines = lit≤ tt;
+  nodes = lit≤ tt;
+  roots = lit≤ tt;
+  report = omega (arith, c.room-out.ensures);
+}
