@@ -10,7 +10,7 @@ use borrow.Author.Tests.{not-false, eqb-true, ltb-false}
 use Rattle.rules.specs.definitions.Limits.{lines_most}
 use Rattle.rules.specs.definitions.Layout.{head_bytes}
 use Rattle.rules.specs.definitions.Refusals.{bad_mark, bad_length, bad_line_count}
-use Rattle.rules.specs.definitions.Faults.{Fault, fault, Found, first_of}
+use Rattle.rules.specs.definitions.Faults.{fault, Found, first_of}
 use Rattle.rules.specs.definitions.Faults.Found.{passes, fails}
 use Rattle.rules.specs.definitions.Formula.{Formula, empty_clause}
 use Rattle.rules.specs.statements.Proper.{Proper}

@@ -13,7 +13,7 @@ use Rattle.rules.specs.definitions.Formula.{Formula}
 use Rattle.rules.specs.definitions.Text.{spelled}
 use Rattle.theory.specs.laws.Formula.{eqb_comm}
 use Rattle.rules.specs.definitions.File.{pair_at}
-use Rattle.rules.specs.definitions.Faults.{Fault, fault, first_of}
+use Rattle.rules.specs.definitions.Faults.{fault, first_of}
 use Rattle.rules.specs.definitions.File.{head_fault}
 use Rattle.proof.specs.Head.{unmarked, headed, head_of}
 use Rattle.proof.specs.declared.Head.TheVariants as H

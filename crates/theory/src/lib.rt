@@ -1,3 +1,2 @@
 // Laws and theorems about the rules; there is no code here.
 #![tactic(auto)]
-

@@ -3,7 +3,6 @@ use mathlib.Core.Path.{sym, ◌∙◌, subst}
 use native.Mathlib.Omega.{arith}
 use Rattle.maps.specs.Playing.{falls as down}
 use Rattle.maps.proofs.Plays.{walk_led}
-use Prim.Native.Nat.{ℕ, ◌<◌}
 use Rattle.maps.proofs.+follow.Goals as goal
 
 pub step-n-requires : goal.step-n-requires

@@ -1,6 +1,5 @@
 -- `maps::compare_nodes` meets its contract: each return is one case of `compare`, at the nodes that were matched.
 use mathlib.Core.Path.{sym, subst}
-use borrow.Author.Tests.{not-true, not-false}
 use Rattle.rules.specs.statements.Sound.{InRange}
 use Rattle.maps.proofs.Pairs.{answer_known, compare_none, compare_leaf, branch_none, branch_leaf, variables_differ, ends_clash, ends_paired}
 use Rattle.maps.proofs.compare_nodes.Goals as goal

@@ -1,7 +1,6 @@
 -- `maps::isomorphic` meets its contract: the test begins with no partners and the pair of the roots, and the pass decides it.
 use mathlib.Core.Path.{refl, ◌∙◌}
 use Prim.Native.Nat.{◌+◌}
-use borrow.Author.Tests.{not-true, not-false}
 use Rattle.rules.specs.definitions.Services.{table_column}
 use Rattle.maps.proofs.Pairs.{answer_known, first_partners, first_fails, first_holds}
 use Rattle.maps.proofs.isomorphic.Goals as goal

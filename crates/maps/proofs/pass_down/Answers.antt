@@ -1,9 +1,8 @@
 -- `maps::pass_down` meets its contract. The invariant: the pass from the top is the pass of what is left from here. The measure is what is left.
 use mathlib.Core.Path.{refl}
 use Prim.Native.Nat.{◌+◌}
-use borrow.Author.Tests.{not-true, not-false}
 use Rattle.rules.specs.definitions.Services.{table_column}
-use Rattle.maps.proofs.Pairs.{answer_known, Going, going_on, visit_fails, all_visited}
+use Rattle.maps.proofs.Pairs.{answer_known, going_on, visit_fails, all_visited}
 use Rattle.maps.proofs.pass_down.Goals as goal
 
 pub loop-i-init : goal.loop-i-init

@@ -1,10 +1,9 @@
 -- `maps::play` meets its contract: a test that refuses, or the walk's outcome as the service answers it.
-use mathlib.Core.Path.{◌≡◌, sym, ap, ◌∙◌}
+use mathlib.Core.Path.{sym, ap, ◌∙◌}
 use Prim.Native.Nat.{ℕ, ◌≤◌}
 use native.Mathlib.Omega.{arith}
 use borrow.Author.Tests.{eq-eqb, ne_eqb, lt-ltb, le-ltb}
 use Rattle.rules.specs.definitions.Layout.{map_words}
-use Rattle.rules.specs.definitions.Services.{playing}
 use Rattle.sets.specs.Values.{set_of}
 use Rattle.maps.proofs.Plays.{play_refuses, play_answers, answered}
 use Rattle.maps.proofs.play.Goals as goal

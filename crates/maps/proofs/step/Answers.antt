@@ -1,15 +1,13 @@
 -- `maps::step` meets its contract: at the node that was read, each return is one case of `next`.
 use mathlib.Core.Path.{◌≡◌, sym, ap, ◌∙◌, subst}
 use mathlib.Core.Bool.{Bool, true, false, cond}
-use Prim.Native.Nat.{ℕ, ◌+◌, ◌≤◌, ◌<◌}
+use Prim.Native.Nat.{ℕ, ◌≤◌, ◌<◌}
 use Rattle.rules.specs.declared.Node.{Node}
 use Rattle.rules.specs.declared.Node.TheVariants.{Branch}
 use Rattle.rules.specs.definitions.Sets.{has}
 use Rattle.rules.specs.definitions.Formula.{Assignment}
 use Rattle.sets.specs.Values.{set_of}
 use Rattle.rules.specs.statements.Sound.{InRange}
-use Rattle.rules.specs.definitions.Services.{table_column}
-use Rattle.maps.specs.declared.Next.{Next}
 use Rattle.maps.specs.declared.Next.TheVariants.{Go, Stop}
 use Rattle.maps.specs.Playing.{next}
 use Rattle.maps.proofs.Plays.{next_low, next_high, next_go}

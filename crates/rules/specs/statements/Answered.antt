@@ -6,7 +6,6 @@ use Rattle.rules.specs.definitions.Checking.{checked}
 use Rattle.rules.specs.definitions.Checking.Checked.{accepted}
 use Rattle.rules.specs.definitions.Tables.Leaves.{filled}
 use Rattle.rules.specs.definitions.Services.{Lent, success, short_tables, checking}
-use Rattle.rules.specs.definitions.Bytes.{text}
 
 -- ---- an answer 0
 -- what a call of checking that answers 0 says of its text and proof

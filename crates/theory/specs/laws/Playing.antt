@@ -25,7 +25,7 @@ use Rattle.theory.specs.laws.Maps.{node_of_word, walk_same, walk_ends, reached_l
 use Rattle.rules.specs.definitions.Lines.{Entry, Row, no_entry, no_row, Rules, row_at, column, root_at}
 use Rattle.rules.specs.definitions.Tables.{padded, node_row, root_row, rows_of, holding}
 use Rattle.theory.specs.laws.Tables.{Wide, table_word, table_past}
-use Rattle.rules.specs.definitions.Services.{table_column, play_refused, play_answer, playing, short}
+use Rattle.rules.specs.definitions.Services.{table_column, play_refused, play_answer, playing}
 use Rattle.rules.specs.statements.Proper.{Proper}
 use Rattle.rules.specs.statements.Good.{Good}
 use Rattle.theory.specs.laws.Lines.{column_past, column_zero, branch_line, column_branch, root_sound}

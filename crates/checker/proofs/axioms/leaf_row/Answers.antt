@@ -1,6 +1,6 @@
 -- `checker::axioms::leaf_row` meets its contract. The invariant: the first j places hold the words of the first j entries.
-use Prim.Native.Nat.{ℕ, ◌≤◌, ◌<◌, ◌-◌}
-use lib.ListN.{length, get_or, take}
+use Prim.Native.Nat.{ℕ, ◌≤◌, ◌<◌}
+use lib.ListN.{length, get_or}
 use Rattle.rules.specs.definitions.Maps.{node_word}
 use Rattle.rules.specs.declared.Value.{Value}
 use Rattle.rules.specs.declared.Node.TheVariants.{Leaf}
@@ -9,11 +9,10 @@ use Rattle.checker.proofs.Leaves.{words_more, words_all, players_length, player_
 use mathlib.Core.Path.{◌≡◌, refl, sym, ap, ◌∙◌}
 use native.Mathlib.Omega.{arith}
 use borrow.Author.Rules.{rules}
-use Rattle.rules.specs.definitions.Limits.{universals_most}
-use Rattle.rules.specs.definitions.Lines.{Entry, leaf_entry, each}
+use Rattle.rules.specs.definitions.Lines.{Entry, leaf_entry}
 use Rattle.rules.specs.definitions.Tables.{padded}
 use Rattle.sets.specs.Values.{clause_of}
-use Rattle.checker.specs.Rows.{players, node_words, root_words}
+use Rattle.checker.specs.Rows.{players}
 use Rattle.checker.proofs.axioms.leaf_row.Goals as goal
 
 pub loop-j-init : goal.loop-j-init

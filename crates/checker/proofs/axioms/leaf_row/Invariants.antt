@@ -1,20 +1,12 @@
 -- `checker::axioms::leaf_row` meets its contract. The invariant: the first j places hold the words of the first j entries.
-use Prim.Native.Nat.{ℕ, ◌≤◌, ◌<◌, ◌-◌}
-use lib.ListN.{length, get_or, take}
-use Rattle.rules.specs.definitions.Maps.{node_word}
-use Rattle.rules.specs.declared.Value.{Value}
-use Rattle.rules.specs.declared.Node.TheVariants.{Leaf}
-use Rattle.rules.specs.definitions.Lines.{falsifying}
-use Rattle.checker.proofs.Leaves.{words_more, words_all, players_length, player_at, no_node}
-use mathlib.Core.Path.{◌≡◌, refl, sym, ap, ◌∙◌}
-use native.Mathlib.Omega.{arith}
-use borrow.Author.Rules.{rules}
+use Prim.Native.Nat.{◌≤◌, ◌-◌}
+use lib.ListN.{take}
+use mathlib.Core.Path.{◌≡◌}
 use Rattle.rules.specs.definitions.Limits.{universals_most}
-use Rattle.rules.specs.definitions.Lines.{Entry, leaf_entry, each}
+use Rattle.rules.specs.definitions.Lines.{leaf_entry, each}
 use Rattle.rules.specs.definitions.Tables.{padded}
 use Rattle.sets.specs.Values.{clause_of}
 use Rattle.checker.specs.Rows.{players, node_words, root_words}
-use Rattle.checker.proofs.Leaves.{words_more, words_all, players_length, player_at}
 use Rattle.checker.proofs.axioms.leaf_row.Given as goal
 
 abbrev pub invariant-loop-j : goal.invariant-loop-j

@@ -4,7 +4,6 @@ use native.Mathlib.Omega.{arith}
 use Rattle.rules.specs.definitions.Layout.{line_words, set_words}
 use Rattle.rules.specs.definitions.Checking.{base, rules_of}
 use Rattle.checker.proofs.Checkings.{prefixed, whole_formula, lines_stopped, lines_passed, last_accepted, last_rejected}
-use borrow.Author.Rules.{rules}
 use Rattle.checker.proofs.check.check_lines.Goals as goal
 
 pub game_of-g-requires : goal.game_of-g-requires

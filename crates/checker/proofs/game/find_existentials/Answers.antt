@@ -1,12 +1,7 @@
 -- `checker::game::find_existentials` meets its contract. The invariant: the set is that of the existential variables from place i on.
 use Rattle.rules.specs.definitions.Layout.{prefix_words}
-use mathlib.Core.Path.{◌≡◌, sym, ◌∙◌}
+use mathlib.Core.Path.{sym, ◌∙◌}
 use native.Mathlib.Omega.{arith}
-use Rattle.rules.specs.definitions.Formula.{Formula, existentials}
-use Rattle.sets.specs.Values.{set_of}
-use Rattle.checker.specs.Game.{Prefixed}
-use Prim.Native.Nat.{◌≤◌}
-use lib.ListN.{drop}
 use Rattle.checker.proofs.Games.{narrow_at, existentials_end, existentials_more, existentials_all}
 use Rattle.checker.proofs.game.find_existentials.Goals as goal
 

@@ -1,13 +1,10 @@
 -- `checker::game::game_of` meets its contract. The invariant: the first i variables of the prefix are bound.
-use mathlib.Core.Path.{◌≡◌, refl, ap, ◌∙◌}
-use native.Mathlib.Omega.{arith}
+use mathlib.Core.Path.{◌≡◌}
 use Rattle.rules.specs.definitions.Formula.{Formula}
 use Rattle.sets.specs.Values.{set_of}
 use Rattle.checker.specs.Game.{Prefixed, BoundFirst}
 use Prim.Native.Nat.{◌≤◌, ◌-◌}
 use lib.ListN.{length}
-use Rattle.rules.specs.definitions.Layout.{prefix_words}
-use Rattle.checker.proofs.Games.{narrow_at, prefix_fits, word_inside, word_outside, universal_room, first_next, game_whole}
 use Rattle.checker.proofs.game.game_of.Given as goal
 
 abbrev pub invariant-loop-i : goal.invariant-loop-i

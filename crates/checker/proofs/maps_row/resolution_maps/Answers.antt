@@ -1,14 +1,10 @@
 -- `checker::maps_row::resolution_maps` meets its contract. The invariant: the first j universals have no fault, and the rows hold their words.
 use mathlib.Core.Path.{refl}
-use mathlib.Core.List.{List}
-use Prim.Native.Nat.{ℕ, ◌≤◌, ◌<◌, ◌-◌}
+use Prim.Native.Nat.{◌<◌}
 use native.Mathlib.Omega.{arith}
 use lib.ListN.{length}
-use Rattle.rules.specs.definitions.Limits.{universals_most}
-use Rattle.rules.specs.definitions.Formula.{Formula, universals}
-use Rattle.rules.specs.definitions.Lines.{Row, Rules}
-use Rattle.checker.specs.MapRows.{Resolving}
-use Rattle.checker.proofs.MapRows.{Lefts, Done, done_none, done_more, done_fails, done_all, game_lefts, game_variable}
+use Rattle.rules.specs.definitions.Formula.{universals}
+use Rattle.checker.proofs.MapRows.{done_none, done_more, done_fails, done_all, game_lefts, game_variable}
 use Rattle.checker.proofs.maps_row.resolution_maps.Goals as goal
 
 pub loop-j-init : goal.loop-j-init

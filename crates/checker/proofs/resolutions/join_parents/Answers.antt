@@ -1,6 +1,5 @@
 -- `checker::resolutions::join_parents` meets its contract: each return by the first test that fails (Joins).
 use Rattle.sets.specs.Values.{set_of, clause_of}
-use borrow.Author.Tests.{not-true, not-false}
 use mathlib.Core.Path.{refl, sym, ap, ap₂, ◌∙◌}
 use native.Mathlib.Omega.{arith}
 use Rattle.rules.specs.definitions.Sets.{has}

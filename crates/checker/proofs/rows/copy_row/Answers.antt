@@ -1,9 +1,7 @@
 -- `checker::rows::copy_row` meets its contract. The invariant: the first j words are those of `words`.
-use mathlib.Core.Path.{◌≡◌, refl}
+use mathlib.Core.Path.{refl}
 use native.Mathlib.Omega.{arith}
 use borrow.Author.Rules.{rules}
-use Prim.Native.Nat.{◌≤◌, ◌-◌}
-use lib.ListN.{length, take}
 use Rattle.checker.proofs.Tables.{copy_more, copy_all}
 use Rattle.checker.proofs.rows.copy_row.Goals as goal
 

@@ -1,10 +1,7 @@
 -- `checker::rows::copy_row` meets its contract. The invariant: the first j words are those of `words`.
-use mathlib.Core.Path.{◌≡◌, refl}
-use native.Mathlib.Omega.{arith}
-use borrow.Author.Rules.{rules}
+use mathlib.Core.Path.{◌≡◌}
 use Prim.Native.Nat.{◌≤◌, ◌-◌}
 use lib.ListN.{length, take}
-use Rattle.checker.proofs.Tables.{copy_more, copy_all}
 use Rattle.checker.proofs.rows.copy_row.Given as goal
 
 abbrev pub invariant-loop-j : goal.invariant-loop-j

@@ -1,16 +1,8 @@
 -- `checker::run::run` meets its contract. The invariant: after i lines their rows stand in the tables, and the run from the start is the run of the records left (Runs).
 use Rattle.checker.proofs.Runs.{so_far_none, ready, record_part, record_long, so_far_stop, so_far_more, so_far_all}
-use mathlib.Core.Path.{◌≡◌, refl}
+use mathlib.Core.Path.{refl}
 use native.Mathlib.Omega.{arith}
 use borrow.Author.Rules.{rules}
-use Prim.Native.Nat.{◌-◌, ◌≤◌}
-use lib.ListN.{length, drop}
-use Rattle.rules.specs.definitions.Layout.{head_bytes}
-use Rattle.rules.specs.definitions.Formula.{Formula}
-use Rattle.rules.specs.definitions.File.{split}
-use Rattle.rules.specs.definitions.Lines.{Rules}
-use Rattle.checker.specs.Makes.{Whole}
-use Rattle.checker.specs.Runs.{SoFar}
 use Rattle.checker.proofs.run.run.Goals as goal
 
 pub loop-i-init : goal.loop-i-init

@@ -1,8 +1,5 @@
 -- `checker::run::run` meets its contract. The invariant: after i lines their rows stand in the tables, and the run from the start is the run of the records left (Runs).
-use Rattle.checker.proofs.Runs.{so_far_none, ready, record_part, record_long, so_far_stop, so_far_more, so_far_all}
-use mathlib.Core.Path.{◌≡◌, refl}
-use native.Mathlib.Omega.{arith}
-use borrow.Author.Rules.{rules}
+use mathlib.Core.Path.{◌≡◌}
 use Prim.Native.Nat.{◌-◌, ◌≤◌}
 use lib.ListN.{length, drop}
 use Rattle.rules.specs.definitions.Layout.{head_bytes}

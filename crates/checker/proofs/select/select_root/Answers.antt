@@ -1,7 +1,6 @@
 -- `checker::select::select_root` meets its contract, test by test.
 use mathlib.Core.Path.{sym, ◌∙◌}
 use Prim.Native.Nat.{◌+◌}
-use Rattle.rules.specs.definitions.Maps.{Column}
 use Rattle.rules.specs.definitions.Services.{table_column}
 use Rattle.checker.proofs.Selects.{select_second, select_first, select_third, select_one, select_none}
 use Rattle.checker.proofs.select.select_root.Goals as goal

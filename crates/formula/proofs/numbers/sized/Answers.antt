@@ -1,11 +1,10 @@
 -- `numbers::sized` meets its contract: from each place of the loop, with the size so far, the same number comes.
-use mathlib.Core.Path.{◌≡◌, refl, sym, ap, ◌∙◌}
-use Prim.Native.Nat.{ℕ, ◌+◌, ◌-◌, ◌≤◌}
+use mathlib.Core.Path.{refl, sym, ap, ◌∙◌}
+use Prim.Native.Nat.{ℕ, ◌+◌}
 use native.Mathlib.Omega.{arith}
 use mir.Syntax.{w32}
 use mir.Facts.{to_z-of_z}
-use lib.ListN.{length, drop}
-use Rattle.rules.specs.definitions.Limits.{number_most}
+use lib.ListN.{drop}
 use Rattle.rules.specs.definitions.Text.{sized}
 use Rattle.formula.proofs.NumberLaws.{same_token, sized_end, sized_low, sized_high, sized_in}
 use Rattle.formula.proofs.numbers.sized.Goals as goal

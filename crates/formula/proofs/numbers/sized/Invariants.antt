@@ -1,13 +1,9 @@
 -- `numbers::sized` meets its contract: from each place of the loop, with the size so far, the same number comes.
-use mathlib.Core.Path.{◌≡◌, refl, sym, ap, ◌∙◌}
-use Prim.Native.Nat.{ℕ, ◌+◌, ◌-◌, ◌≤◌}
-use native.Mathlib.Omega.{arith}
-use mir.Syntax.{w32}
-use mir.Facts.{to_z-of_z}
+use mathlib.Core.Path.{◌≡◌}
+use Prim.Native.Nat.{◌-◌, ◌≤◌}
 use lib.ListN.{length, drop}
 use Rattle.rules.specs.definitions.Limits.{number_most}
 use Rattle.rules.specs.definitions.Text.{sized}
-use Rattle.formula.proofs.NumberLaws.{same_token, sized_end, sized_low, sized_high, sized_in}
 use Rattle.formula.proofs.numbers.sized.Given as goal
 
 abbrev pub invariant-loop-i : goal.invariant-loop-i

@@ -1,5 +1,5 @@
 -- `tables::clear` meets its contract: after i turns the first i words are zero.
-use Prim.Native.Nat.{ℕ, ◌≤◌, ◌<◌, ◌-◌}
+use Prim.Native.Nat.{ℕ, ◌<◌}
 use mathlib.Core.Path.{◌≡◌, refl, ap, ◌∙◌, subst}
 use mathlib.Core.List.{List, ◌++◌}
 use native.Mathlib.Omega.{arith}

@@ -1,13 +1,8 @@
 -- `tables::clear` meets its contract: after i turns the first i words are zero.
-use Prim.Native.Nat.{ℕ, ◌≤◌, ◌<◌, ◌-◌}
-use mathlib.Core.Path.{◌≡◌, refl, ap, ◌∙◌, subst}
-use mathlib.Core.List.{List, ◌++◌}
-use native.Mathlib.Omega.{arith}
-use native.Mathlib.Nat.{le_antisymm}
-use borrow.Author.Rules.{rules}
-use borrow.Author.Fill.{fill_more}
-use Rattle.theory.specs.laws.Tables.{holding_none}
-use lib.ListN.{length, set, drop, replicate, length-set}
+use Prim.Native.Nat.{◌≤◌, ◌-◌}
+use mathlib.Core.Path.{◌≡◌}
+use mathlib.Core.List.{◌++◌}
+use lib.ListN.{length, drop, replicate}
 use Rattle.formula.proofs.tables.clear.Given as goal
 
 abbrev pub invariant-loop-i : goal.invariant-loop-i

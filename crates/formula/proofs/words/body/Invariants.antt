@@ -1,10 +1,9 @@
 -- `words::body` meets its contract: from each place of the loop, inside a comment or not, the same rest of the text is left.
-use mathlib.Core.Path.{◌≡◌, refl, sym, ap, ◌∙◌}
-use mathlib.Core.Bool.{Bool, true, false}
-use Prim.Native.Nat.{◌+◌, ◌-◌, ◌≤◌}
-use native.Mathlib.Omega.{arith}
+use mathlib.Core.Path.{◌≡◌}
+use mathlib.Core.Bool.{false}
+use Prim.Native.Nat.{◌-◌, ◌≤◌}
 use lib.ListN.{length}
-use Rattle.formula.proofs.TokenLaws.{rest_at, comment_ends, comment_on, separator_passed, comment_begins, comments_over, comments_end}
+use Rattle.formula.proofs.TokenLaws.{rest_at}
 use Rattle.formula.proofs.words.body.Given as goal
 
 abbrev pub invariant-loop-at : goal.invariant-loop-at

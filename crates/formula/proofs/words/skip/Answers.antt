@@ -1,9 +1,7 @@
 -- `words::skip` meets its contract: from each place of the loop the same place is reached.
-use mathlib.Core.Path.{◌≡◌, refl, sym, ◌∙◌}
-use Prim.Native.Nat.{◌+◌, ◌-◌, ◌≤◌}
+use mathlib.Core.Path.{refl, sym, ◌∙◌}
 use native.Mathlib.Omega.{arith}
-use lib.ListN.{length, drop}
-use Rattle.rules.specs.definitions.Text.{separator, lead}
+use Rattle.rules.specs.definitions.Text.{separator}
 use Rattle.formula.proofs.TokenLaws.{lead_in, lead_out, lead_end}
 use Rattle.formula.proofs.words.skip.Goals as goal
 

@@ -1,10 +1,8 @@
 -- `words::skip` meets its contract: from each place of the loop the same place is reached.
-use mathlib.Core.Path.{◌≡◌, refl, sym, ◌∙◌}
+use mathlib.Core.Path.{◌≡◌}
 use Prim.Native.Nat.{◌+◌, ◌-◌, ◌≤◌}
-use native.Mathlib.Omega.{arith}
 use lib.ListN.{length, drop}
 use Rattle.rules.specs.definitions.Text.{separator, lead}
-use Rattle.formula.proofs.TokenLaws.{lead_in, lead_out, lead_end}
 use Rattle.formula.proofs.words.skip.Given as goal
 
 abbrev pub invariant-loop-at : goal.invariant-loop-at

@@ -1,10 +1,8 @@
 -- `words::word_end` meets its contract: from each place of the loop the same place is reached.
-use mathlib.Core.Path.{◌≡◌, refl, sym, ap, ◌∙◌}
+use mathlib.Core.Path.{refl, sym, ap, ◌∙◌}
 use mathlib.Core.Bool.{not}
-use Prim.Native.Nat.{◌+◌, ◌-◌, ◌≤◌}
 use native.Mathlib.Omega.{arith}
-use lib.ListN.{length, drop}
-use Rattle.rules.specs.definitions.Text.{token_byte, lead}
+use Rattle.rules.specs.definitions.Text.{token_byte}
 use Rattle.formula.proofs.TokenLaws.{lead_in, lead_out, lead_end}
 use Rattle.formula.proofs.words.word_end.Goals as goal
 

@@ -1,8 +1,7 @@
 -- `report::map::put_nodes` meets its contract. The loop's invariant: what is put, with the lines of what is marked from i down, is the map's nodes.
 use Prim.Native.Nat.{◌+◌}
-use native.Mathlib.Omega.{arith}
 use Rattle.rules.specs.definitions.Services.{table_column}
-use Rattle.report.proofs.Falling.{Falls, falls_begin, falls_over, falls_put, falls_end}
+use Rattle.report.proofs.Falling.{Falls}
 use Rattle.report.proofs.map.put_nodes.Given as goal
 
 abbrev pub invariant-loop-i : goal.invariant-loop-i

@@ -1,8 +1,6 @@
 -- `report::table::put_maps` meets its contract. The loop's invariant: what is put, with the maps that the words from k on name, is all the maps.
 use Prim.Native.Nat.{◌-◌}
-use native.Mathlib.Omega.{arith}
-use Rattle.report.specs.Tabled.{InTable}
-use Rattle.report.proofs.Maps.{Mapped, mapped_begin, mapped_ready, mapped_put, mapped_over, mapped_end}
+use Rattle.report.proofs.Maps.{Mapped}
 use Rattle.report.proofs.table.put_maps.Given as goal
 
 abbrev pub invariant-loop-k : goal.invariant-loop-k

@@ -1,9 +1,8 @@
 -- `report::text::put` meets its contract. The loop's invariant: out is what it was with the bytes before i pasted in at its place.
-use mathlib.Core.Path.{◌≡◌, refl}
-use Prim.Native.Nat.{◌≤◌, ◌-◌}
+use mathlib.Core.Path.{refl}
 use native.Mathlib.Omega.{arith}
-use lib.ListN.{length, length-set}
-use lib.Seq.{paste, paste-zero}
+use lib.ListN.{length-set}
+use lib.Seq.{paste-zero}
 use Rattle.report.proofs.Laws.{turn, all_pasted}
 use Rattle.report.proofs.text.put.Goals as goal
 

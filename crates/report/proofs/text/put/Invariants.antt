@@ -1,10 +1,8 @@
 -- `report::text::put` meets its contract. The loop's invariant: out is what it was with the bytes before i pasted in at its place.
-use mathlib.Core.Path.{◌≡◌, refl}
+use mathlib.Core.Path.{◌≡◌}
 use Prim.Native.Nat.{◌≤◌, ◌-◌}
-use native.Mathlib.Omega.{arith}
-use lib.ListN.{length, length-set}
-use lib.Seq.{paste, paste-zero}
-use Rattle.report.proofs.Laws.{turn, all_pasted}
+use lib.ListN.{length}
+use lib.Seq.{paste}
 use Rattle.report.proofs.text.put.Given as goal
 
 abbrev pub invariant-loop-i : goal.invariant-loop-i

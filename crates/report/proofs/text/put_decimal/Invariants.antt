@@ -1,12 +1,5 @@
 -- `report::text::put_decimal` meets its contract. The loop's invariant: the digits from `from` on stand in the local array.
-use mathlib.Core.Path.{◌≡◌, refl, ◌∙◌}
-use Prim.Native.Nat.{ℕ, ◌<◌, ◌-◌}
-use native.Mathlib.Omega.{arith}
-use borrow.Author.Rules.{rules}
-use mathlib.Core.List.{List}
-use lib.ListN.{take, drop, replicate, length-take, length-drop}
-use lib.Seq.{take_all}
-use Rattle.report.proofs.Laws.{Digits, digits_begin, room_left, digits_more, digits_end, length_decimal, retext}
+use Rattle.report.proofs.Laws.{Digits}
 use Rattle.report.proofs.text.put_decimal.Given as goal
 
 abbrev pub invariant-loop-left : goal.invariant-loop-left
