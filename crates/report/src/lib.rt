@@ -22,7 +22,7 @@ pub fn print(
     roots: &mut [u32],
     out: &mut [u8],
 ) -> usize
-    requires { Room (record { prefix = prefix.now; clauses = clauses.old; lines = lines.old; nodes = nodes.old; roots = roots.old }) out.old }
+    requires { Room (record { prefix = prefix.old; clauses = clauses.old; lines = lines.old; nodes = nodes.old; roots = roots.old }) out.old }
     ensures { PrintCall text.now proof.now (record { prefix = prefix.old; clauses = clauses.old; lines = lines.old; nodes = nodes.old; roots = roots.old }) out.old result out.new prefix.new clauses.new lines.new nodes.new roots.new }
 {
     let reply = malintok::malintok_check(
