@@ -76,9 +76,9 @@ module _ (R : Rules) (F : Formula) (proper : Proper F) (rows : List Row) (good :
   clause_wide i h = length_clause_row _ (good_words R F rows (suc i) (good (suc i) (omega arith) h))
 
 -- one line more
-module _ (R : Rules) (F : Formula) (proper : Proper F) (rows : List Row) (lines lines₀ nodes nodes₀ roots roots₀ : List ℕ) (S : Standing R F rows lines lines₀ nodes nodes₀ roots roots₀) (bytes : List ℕ) (row : Row) (Made_row : next_line R F rows bytes ≡ made row) (i : ℕ) (at : i ≡ length rows) (room : i < lines_most) where
+module _ (R : Rules) (F : Formula) (proper : Proper F) (rows : List Row) (lines lines₀ nodes nodes₀ roots roots₀ : List ℕ) (S : Standing R F rows lines lines₀ nodes nodes₀ roots roots₀) (bytes : List ℕ) (row : Row) (makes_row : next_line R F rows bytes ≡ made row) (i : ℕ) (at : i ≡ length rows) (room : i < lines_most) where
   good' : Good R F (rows ++ (row ∷ []))
-  good' = good_next R F rows bytes row proper S.good Made_row
+  good' = good_next R F rows bytes row proper S.good makes_row
 
   last_row : get_or (rows ++ (row ∷ [])) (length rows) no_row ≡ row
   unfolding row_at
