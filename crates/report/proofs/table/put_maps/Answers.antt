@@ -1,7 +1,17 @@
 -- `report::table::put_maps` meets its contract. The loop's invariant: what is put, with the maps that the words from k on name, is all the maps.
+use mathlib.Core.List.{List}
+use Prim.Native.Nat.{ℕ, ◌≤◌, ◌<◌}
 use native.Mathlib.Omega.{arith}
-use Rattle.report.proofs.Maps.{mapped_begin, mapped_ready, mapped_put, mapped_over, mapped_end}
+use lib.ListN.{length, get_or}
+use Rattle.rules.specs.definitions.Layout.{universal_mark}
+use Rattle.report.specs.Tabled.{InTable}
+use Rattle.report.proofs.Maps.{Mapped, mapped_begin, mapped_ready, mapped_put, mapped_over, mapped_end}
 use Rattle.report.proofs.table.put_maps.Goals as goal
+
+-- the universal that comes is in the tables
+in_table : {prefix nodes roots before after : List ℕ} {n at next j k : ℕ} → 64 ≤ length prefix → Mapped prefix nodes roots n before at after next j k
+    → k < 64 → universal_mark < get_or prefix k 0 → InTable roots n j
+in_table long P more is = (mapped_ready _ _ _ _ _ _ long _ _ _ _ P more is).0
 
 pub overflow_sub-row : goal.overflow_sub-row
 overflow_sub-row c = omega arith
@@ -27,13 +37,13 @@ pub overflow_add-k : goal.overflow_add-k
 overflow_add-k c = omega arith
 
 pub overflow_add-root : goal.overflow_add-root
-overflow_add-root c = omega (arith, (mapped_ready _ _ _ _ _ _ c.requires.0.prefix_long _ _ _ _ c.loop-k.invariant c.loop-k-test.true c.if-word-gt-UNIVERSAL_MARK.true).0)
+overflow_add-root c = omega (arith, in_table c.requires.0.prefix_long c.loop-k.invariant c.loop-k-test.true c.if-word-gt-UNIVERSAL_MARK.true)
 
 pub offset_bounds-roots-row : goal.offset_bounds-roots-row
-offset_bounds-roots-row c = omega (arith, (mapped_ready _ _ _ _ _ _ c.requires.0.prefix_long _ _ _ _ c.loop-k.invariant c.loop-k-test.true c.if-word-gt-UNIVERSAL_MARK.true).0)
+offset_bounds-roots-row c = omega (arith, in_table c.requires.0.prefix_long c.loop-k.invariant c.loop-k-test.true c.if-word-gt-UNIVERSAL_MARK.true)
 
 pub bounds-roots-row : goal.bounds-roots-row
-bounds-roots-row c = omega (arith, (mapped_ready _ _ _ _ _ _ c.requires.0.prefix_long _ _ _ _ c.loop-k.invariant c.loop-k-test.true c.if-word-gt-UNIVERSAL_MARK.true).0)
+bounds-roots-row c = omega (arith, in_table c.requires.0.prefix_long c.loop-k.invariant c.loop-k-test.true c.if-word-gt-UNIVERSAL_MARK.true)
 
 pub overflow_sub-word : goal.overflow_sub-word
 overflow_sub-word c = omega arith
@@ -43,7 +53,7 @@ put_map-next-requires c =
     let a = c.args in
     let p = c.requires in
     let l = c.loop-k in
-    let t = (mapped_ready _ _ _ _ _ _ c.requires.0.prefix_long _ _ _ _ c.loop-k.invariant c.loop-k-test.true c.if-word-gt-UNIVERSAL_MARK.true).0 in
+    let t = in_table c.requires.0.prefix_long c.loop-k.invariant c.loop-k-test.true c.if-word-gt-UNIVERSAL_MARK.true in
     (record { column = t.0; from = t.1.0; most = t.1.1; long = p.0.nodes_long }, omega (arith, t.0, l.invariant.room, l.invariant.put.same_length, p.1))
 
 pub overflow_add-j : goal.overflow_add-j
