@@ -9,22 +9,12 @@ use rules::limits::{CLAUSE_WORDS, LINE_WORDS, MAP_WORDS, PREFIX_WORDS};
 use std::io;
 use std::io::Write;
 
-// A number behind a space.
-fn number(rt: &HostRuntime, n: u32) -> io::Result<()> {
-    print!(rt; " {n}")
-}
-
 // A case's name and the numbers of its reply.
 fn line(rt: &HostRuntime, name: &str, r: Reply) -> io::Result<()> {
-    print!(rt; "{name}:")?;
-    number(rt, r.number)?;
-    number(rt, r.place)?;
-    number(rt, r.variable)?;
-    number(rt, r.variables)?;
-    number(rt, r.clauses)?;
-    number(rt, r.universals)?;
-    number(rt, r.lines)?;
-    println!(rt; "")
+    println!(rt;
+        "{name}: {} {} {} {} {} {} {}",
+        r.number, r.place, r.variable, r.variables, r.clauses, r.universals, r.lines
+    )
 }
 
 // The reply of reading a text.
@@ -56,55 +46,26 @@ fn answer(text: &[u8], proof: &[u8]) -> Reply {
     )
 }
 
-// What is printed for a text and a proof.
-fn show(rt: &HostRuntime, text: &[u8], proof: &[u8]) -> io::Result<()> {
-    let mut prefix = [0u32; PREFIX_WORDS];
-    let mut clauses = [0u64; CLAUSE_WORDS];
-    let mut lines = [0u64; LINE_WORDS];
-    let mut nodes = [0u32; MAP_WORDS];
-    let mut roots = [0u32; MAP_WORDS];
-    let mut out = report::room();
-    let n = report::print(
-        text,
-        proof,
-        &mut prefix,
-        &mut clauses,
-        &mut lines,
-        &mut nodes,
-        &mut roots,
-        &mut out,
-    );
-    io::writer(rt).write_all(&out[..n])
-}
-
-// Both of them.
+// The reply, and what is printed.
 fn checked(rt: &HostRuntime, name: &str, text: &[u8], proof: &[u8]) -> io::Result<()> {
     line(rt, name, answer(text, proof))?;
-    show(rt, text, proof)
+    let mut room = report::room();
+    io::writer(rt).write_all(report::of(text, proof, &mut room))
 }
 
 // A file of n lines, each an axiom of clause 1: its length. At most 1,025 lines, in 8,207 bytes.
+// Kept: 0 for more, since no case asks for more, and an Option would be taken apart for a case that never is.
 fn axioms(n: usize, proof: &mut [u8]) -> usize
     ensures within { result ≤ length proof.new }
     ensures taken { result ≡ length (take result proof.new) }
 {
-    if 1025 < n {
+    if 1025 < n || proof.len() < 8207 {
         return 0;
     }
-    if proof.len() < 8207 {
-        return 0;
-    }
-    proof[0] = b'M';
-    proof[1] = b'R';
-    proof[2] = b'P';
-    proof[3] = 1;
-    proof[5] = (n % 256) as u8;
-    proof[6] = (n / 256) as u8;
-    let mut i = 0;
-    while i < n {
-        proof[7 + 8 * i] = 1;
-        proof[8 + 8 * i] = 1;
-        i += 1;
+    proof[..4].copy_from_slice(b"MRP\x01");
+    proof[5..7].copy_from_slice(&(n as u16).to_le_bytes());
+    for line in proof[7..7 + 8 * n].chunks_exact_mut(8) {
+        line.copy_from_slice(b"\x01\x01\x00\x00\x00\x00\x00\x00");
     }
     7 + 8 * n
 }
@@ -285,6 +246,7 @@ fn squared(rt: &HostRuntime) -> io::Result<()> {
     )
 }
 
+// All cases in order.
 fn main(rt: HostRuntime) -> io::Result<()> {
     texts(&rt)?;
     many(&rt, "lines-1024", 1024)?;

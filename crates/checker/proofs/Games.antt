@@ -9,6 +9,7 @@ use native.Mathlib.Decide.{dec_lt}
 use native.Mathlib.Numerals.{add-one}
 use lib.Dec.{eqb}
 use lib.ListN.{length, get_or, take, drop, set, replicate, length-append, length-drop, length-map, length-set, get_or-map, drop_of_length-le, get_or-append, take-append-drop}
+use Rattle.std.proofs.lemmas.List.{map-set, same_from_push}
 use lib.Seq.{drop-cons, take-suc, take_all, get_or-set_same, get_or-set_other, get_or-append_seam, take_at}
 use borrow.Author.Tests.{eq-eqb, ne_eqb, le-leb, lt-leb}
 use Rattle.rules.specs.definitions.Layout.{prefix_words, universal_mark, word_bits, set_words}
@@ -24,7 +25,8 @@ use Rattle.rules.specs.definitions.Tables.{padded, holding, bound_word}
 use Rattle.sets.specs.declared.Set.{Set}
 use Rattle.sets.specs.Values.{set_of}
 use Rattle.checker.specs.declared.game.Game.{Game}
-use Rattle.checker.specs.Game.{Prefixed, Narrow, with_word, left_set, GameOf, BoundFirst, BoundMore, MoreExists, MoreForall}
+use Rattle.checker.specs.declared.game.Universal.{Universal}
+use Rattle.checker.specs.Game.{Prefixed, Narrow, with_word, variables, nobody, left_set, GameOf, BoundFirst, BoundMore, MoreExists, MoreForall}
 use Rattle.theory.specs.laws.Tables.{holding_at, holding_past, padded_more}
 use Rattle.rules.specs.definitions.Checking.{base, rules_of}
 
@@ -164,23 +166,31 @@ module _ (Q : List Bound) (d : Distinct Q) (few : length (universals Q) ≤ univ
       let u : universals (take (suc i) Q) ≡ universals (take i Q) = ap universals (take-suc Q i nowhere h) ∙ snoc_exists (take i Q) q k in
       record {
         universal_count = m.universal_count ∙ rw u B.universal_count;
-        vars = m.vars ∙ rw u B.vars;
-        left = λ j x l. rw (u, m.left) (B.left j x (rw u at l));
-        places = ap length m.left ∙ B.places;
+        vars = rw (u, m.universals) B.vars;
+        left = λ j x l. rw (u, m.universals) (B.left j x (rw u at l));
+        places = ap length m.universals ∙ B.places;
         bound_set = bound_next m.bound_set;
       }
 
   pub first_forall : q.kind ≡ forall → MoreForall g q.var r → BoundFirst Q (suc i) r
   first_forall k m = record {
     universal_count = m.universal_count ∙ omega (arith, B.universal_count, long);
-    vars = m.vars ∙ rw u (ap (λ (l : List ℕ). set l g.universals q.var) B.vars ∙ padded_snoc universals_most us q.var g.universals B.universal_count (omega (arith, long, room)));
+    vars =
+        rw (u, m.universals) (
+        map-set (λ (p : Universal). p.variable) g.universals g.universal_count newer
+        ∙ ap (λ (l : List ℕ). set l g.universal_count q.var) B.vars
+        ∙ padded_snoc universals_most us q.var g.universal_count B.universal_count (omega (arith, long, room))
+        );
     left = left;
-    places = ap length m.left ∙ length-set g.left g.universals g.bound ∙ B.places;
+    places = ap length m.universals ∙ length-set g.universals g.universal_count newer ∙ B.places;
     bound_set = bound_next m.bound_set;
   }
     where
       us : List ℕ
       us = universals (take i Q)
+
+      newer : Universal
+      newer = record { variable = q.var; left = g.bound }
 
       u : universals (take (suc i) Q) ≡ us ++ (q.var ∷ [])
       u = ap universals (take-suc Q i nowhere h) ∙ snoc_forall (take i Q) q k
@@ -193,11 +203,11 @@ module _ (Q : List Bound) (d : Distinct Q) (few : length (universals Q) ≤ univ
 
       earlier : (j x : ℕ) → j < length us → has (left_set r j) x ≡ left_of Q x (get_or (universals (take (suc i) Q)) j 0)
       earlier j x l =
-          rw (u, m.left, get_or-set_other g.left g.universals j g.bound (record { word = 0 }) (λ e. absurd (omega (arith, B.universal_count))), get_or-append us (q.var ∷ []) 0 j l) (B.left j x l)
+          rw (u, m.universals, get_or-set_other g.universals g.universal_count j newer nobody (λ e. absurd (omega (arith, B.universal_count))), get_or-append us (q.var ∷ []) 0 j l) (B.left j x l)
 
       newest : (x : ℕ) → has (left_set r (length us)) x ≡ left_of Q x (get_or (universals (take (suc i) Q)) (length us) 0)
       newest x =
-          rw (u, m.left, ← B.universal_count, get_or-set_same g.left g.universals g.bound (record { word = 0 }) (omega (arith, B.universal_count, B.places, long, room)), B.universal_count, get_or-append_seam us q.var [] 0)
+          rw (u, m.universals, ← B.universal_count, get_or-set_same g.universals g.universal_count newer nobody (omega (arith, B.universal_count, B.places, long, room)), B.universal_count, get_or-append_seam us q.var [] 0)
           (B.bound_set x ∙ sym (left_taken Q d i x h))
 
       left : (j x : ℕ) → j < length (universals (take (suc i) Q)) → has (left_set r j) x ≡ left_of Q x (get_or (universals (take (suc i) Q)) j 0)
@@ -224,10 +234,10 @@ module _ (F : Formula) (t : List ℕ) (long : prefix_words ≤ length t) (P : Pr
     at = get_or F.prefix i nowhere
 
     -- there is room for a universal
-    pub universal_room : universal_mark ≤ get_or t i 0 → g.universals < universals_most
+    pub universal_room : universal_mark ≤ get_or t i 0 → g.universal_count < universals_most
     universal_room h = by at.kind refl
       where
-        by : (k : Quant) → at.kind ≡ k → g.universals < universals_most
+        by : (k : Quant) → at.kind ≡ k → g.universal_count < universals_most
         by exists e =
             let r = var_range F t long P i l in
             let w : get_or t i 0 ≡ at.var = prefix_at F t long P i l ∙ rw (e, bound_word) in
@@ -274,7 +284,7 @@ game_whole F i g h n e B s =
     }
 
 -- with none bound
-pub none_bound : (Q : List Bound) (g : Game) → g.universals ≡ 0 → g.vars ≡ replicate universals_most 0 → length g.left ≡ universals_most → set_of g.bound ≡ none set_words → BoundFirst Q 0 g
+pub none_bound : (Q : List Bound) (g : Game) → g.universal_count ≡ 0 → variables g.universals ≡ replicate universals_most 0 → length g.universals ≡ universals_most → set_of g.bound ≡ none set_words → BoundFirst Q 0 g
 unfolding universals bound padded
 none_bound Q g u v l b = record { universal_count = u; vars = v; left = λ j x h. absurd (omega arith); places = l; bound_set = λ x. rw b (has_none set_words x) }
 
@@ -283,13 +293,11 @@ pub existentials_end : (F : Formula) (t : List ℕ) → prefix_words ≤ length 
 unfolding existentials
 existentials_end F t long P = rw (drop_of_length-le F.prefix {i = prefix_words} (prefix_fits F t long P))
 
-pub existentials_more : (F : Formula) (t : List ℕ) → prefix_words ≤ length t → Prefixed F t → (i : ℕ) (s : Variables) → 0 < i → i ≤ prefix_words
-    → s ≡ existentials (drop i F.prefix) → with_word s (get_or t (i - 1) 0) ≡ existentials (drop (i - 1) F.prefix)
-existentials_more F t long P (suc i) s o h e =
-    let m : suc i - 1 ≡ i = omega arith in
-    rw (m, e) (existentials_from F t long P i (omega arith))
-existentials_more F t long P zero s o h e = absurd (omega arith)
-
-pub existentials_all : (F : Formula) (s : Variables) (i : ℕ) → i ≤ 0 → s ≡ existentials (drop i F.prefix) → s ≡ existentials F.prefix
-existentials_all F s zero h e = e
-existentials_all F s (suc i) h e = absurd (omega arith)
+-- a turn takes the last of the words still to come, which are the first of the table
+pub last_taken : (t ws more : List ℕ) (w : ℕ) → prefix_words ≤ length t → length ws ≤ prefix_words → ws ≡ take (length ws) t → ws ≡ more ++ (w ∷ [])
+    → (length ws ≡ suc (length more)) × (more ≡ take (length more) t) × (w ≡ get_or t (length more) 0)
+last_taken t ws more w long few first e =
+    let n : length ws ≡ suc (length more) = ap length e ∙ length-append more (w ∷ []) ∙ omega arith in
+    let z = same_from_push more (take (length more) t) w (get_or t (length more) 0)
+    (sym e ∙ first ∙ ap (λ (k : ℕ). take k t) n ∙ take-suc t (length more) 0 (omega arith)) in
+    (n, z.0, z.1)

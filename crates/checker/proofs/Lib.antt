@@ -1,10 +1,10 @@
-pub mod Tables
+pub mod Faulted
+pub mod Parts
 pub mod Columns
 pub mod Games
 pub mod Leaves
 pub mod Formulas
 pub mod Joins
-pub mod Selects
 pub mod MapRows
 pub mod Resolves
 pub mod Nexts

@@ -1,18 +1,20 @@
 -- A resolution's maps: the tables that hold the rows give what the rules ask of the rows, and the universals' answers in order give the row or the first fault.
 use mathlib.Core.Path.{◌≡◌, refl, sym, ap, ap₂, subst, ◌∙◌}
-use mathlib.Core.Bool.{Bool, true, false, not, true≢false, false≢true}
+use mathlib.Core.Bool.{Bool, true, false, not}
 use mathlib.Core.List.{List, [], ◌∷◌, ◌++◌}
 use Prim.Native.Nat.{ℕ, zero, suc, ◌+◌, ◌-◌, ◌≤◌, ◌<◌}
 use native.Mathlib.Omega.{arith}
 use native.Mathlib.Nat.{add-zero, add-suc, suc-add, zero-add}
 use native.Mathlib.Numerals.{add-one}
 use borrow.Author.Count.{below_more}
-use lib.ListN.{length, get_or, take, drop, set, replicate, length-append, length-replicate, get_or-append}
+use lib.ListN.{get_or-map, length, get_or, take, drop, set, replicate, length-append, length-replicate, get_or-append}
+use Rattle.std.specs.Prelude.{Result, Ok, Err}
 use Rattle.rules.specs.declared.Resolution.{Resolution}
+use Rattle.rules.specs.declared.refusals.Refusal.{Refusal}
 use Rattle.rules.specs.declared.Node.TheVariants.{Branch}
 use Rattle.rules.specs.definitions.Limits.{universals_most, lines_most}
 use Rattle.rules.specs.definitions.Layout.{map_words}
-use Rattle.rules.specs.definitions.Refusals.{not_left}
+use Rattle.rules.specs.definitions.Refusals.{refusal_number, not_left}
 use Rattle.rules.specs.definitions.Sets.{has}
 use Rattle.rules.specs.definitions.Faults.{Fault, first_of}
 use Rattle.rules.specs.definitions.Faults.Found.{fails}
@@ -31,44 +33,33 @@ use Rattle.theory.specs.laws.Playing.{table_column_rows, table_root_rows}
 use Rattle.rules.specs.definitions.Services.{table_column}
 use Rattle.sets.specs.declared.Set.{Set}
 use Rattle.sets.specs.Values.{set_of}
-use Rattle.maps.specs.Playing.{Place}
+use Rattle.maps.specs.Columns.{Numbered}
 use Rattle.checker.specs.declared.game.Game.{Game}
 use Rattle.checker.specs.declared.maps_row.MapEntry.{MapEntry}
-use Rattle.checker.specs.declared.maps_row.MapsMade.{MapsMade}
-use Rattle.checker.specs.Game.{GameOf}
+use Rattle.checker.specs.Game.{GameOf, nobody}
+use Rattle.checker.specs.declared.game.Universal.{Universal}
 use Rattle.checker.specs.Rows.{node_words, root_words}
 use Rattle.checker.specs.Selects.{strict_select}
-use Rattle.checker.specs.MapRows.{Resolving, LeftSet, root_word, Enters, Keeps, Gets, AllGet}
+use Rattle.checker.specs.MapRows.{Resolving, LeftSet, Place, root_word, Enters, Keeps, Gets, AllGet}
 use Rattle.checker.proofs.Columns.{sound_there, isomorphic_agree}
 use Rattle.checker.proofs.Leaves.{words_more, words_all, no_node}
 
 -- ---- one universal's answer
-module _ (n : ℕ) (e : Entry) (m : MapEntry) where
-  pub enters_refused : (t : Bool) → t ≡ true → m.refusal ≡ n → Enters t n e m
-  enters_refused true h p = p
-  enters_refused false h p = absurd (false≢true h)
+module _ (n : ℕ) (e : Entry) where
+  -- an entry: the fault is not to be given
+  enters_entry : (t : Bool) (m : MapEntry) → Enters t n e (Ok m) → (t ≡ false) × (m.node ≡ node_word e.node) × (m.root ≡ e.root)
+  enters_entry true m p = absurd p
+  enters_entry false m p = (refl, p.0, p.1)
 
-  pub enters_made : (t : Bool) → t ≡ false → m.refusal ≡ 0 → m.node ≡ node_word e.node → m.root ≡ e.root → Enters t n e m
-  enters_made true h p q o = absurd (true≢false h)
-  enters_made false h p q o = (p, q, o)
+  -- a refusal: it is
+  enters_given : (t : Bool) (k : Refusal) → Enters t n e (Err k) → (t ≡ true) × (refusal_number k ≡ n)
+  enters_given true k p = (refl, p)
+  enters_given false k p = absurd p
 
-  -- an answer without a number: the fault is not to be given
-  enters_zero : (t : Bool) → 1 ≤ n → Enters t n e m → m.refusal ≡ 0 → (t ≡ false) × (m.node ≡ node_word e.node) × (m.root ≡ e.root)
-  enters_zero true h p z = absurd (omega arith)
-  enters_zero false h p z = (refl, p.1, p.2)
-
-  -- one with a number: it is
-  enters_given : (t : Bool) → Enters t n e m → (m.refusal ≡ 0 → ⊥) → (t ≡ true) × (m.refusal ≡ n)
-  enters_given true p z = (refl, p)
-  enters_given false p z = absurd (z p.0)
-
-module _ (s : KeptRoot) (m : MapEntry) where
-  pub keeps_root : (k : ℕ) → kept k ≡ s → m.refusal ≡ 0 → m.node ≡ 0 → m.root ≡ k → Keeps s m
-  unfolding node_word
-  keeps_root k e p q o = subst (λ (t : KeptRoot). Keeps t m) e (p, q, o)
-
-  pub keeps_none : undefined ≡ s → m.refusal ≡ 31 → Keeps s m
-  keeps_none e p = subst (λ (t : KeptRoot). Keeps t m) e p
+-- the root that select keeps
+pub keeps_root : (s : KeptRoot) (k : ℕ) → kept k ≡ s → Keeps s (Ok (record { node = 0; root = k }))
+unfolding node_word
+keeps_root s k e = subst (λ (t : KeptRoot). Keeps t (Ok (record { node = 0; root = k }))) e (refl, refl)
 
 -- ---- select asks of a column the two nodes and the comparison
 tests : Bool → Bool → Bool → ℕ → ℕ → KeptRoot
@@ -97,6 +88,10 @@ module _ (R : Rules) (F : Formula) (rows : List Row) (nodes nodes₀ roots roots
   offset : j < universals_most
   offset = omega (arith, S.proper.universals)
 
+  -- the universal's column is in the table
+  pub column_asks : (map_words ≤ length nodes) × (j < universals_most)
+  column_asks = (holding_long map_words (node_table F rows) nodes₀ nodes S.in_nodes, offset)
+
   -- the table's column is the rows'
   column_same : (k : ℕ) → k ≤ lines_most → table_column nodes (j + 1) k ≡ column rows j k
   column_same k h = ap (λ (n : ℕ). table_column nodes n k) (add-one j) ∙ table_column_rows R F S.proper rows S.good few_rows j l nodes₀ nodes S.in_nodes k h
@@ -104,8 +99,7 @@ module _ (R : Rules) (F : Formula) (rows : List Row) (nodes nodes₀ roots roots
   -- a line before this one
   module _ (p : ℕ) (e : (1 ≤ p) × (p < i)) where
     pub line_place : Place roots j p
-    unfolding map_words
-    line_place = record { column = offset; from = e.0; most = omega (arith, S.few); long = holding_long map_words (root_table F rows) roots₀ roots S.in_roots }
+    line_place = record { offset = offset; from = e.0; most = omega (arith, S.few); long = holding_long map_words (root_table F rows) roots₀ roots S.in_roots }
 
     root_read : root_word roots j p ≡ root_at rows j p
     root_read =
@@ -114,10 +108,6 @@ module _ (R : Rules) (F : Formula) (rows : List Row) (nodes nodes₀ roots roots
 
     root_range : (1 ≤ root_at rows j p) × (root_at rows j p ≤ lines_most)
     root_range = let g = ((S.good p e.0 (omega (arith, S.line))).entry j l).root in (g.0, omega (arith, g.1, S.few))
-
-    root_place : Place nodes j (root_at rows j p)
-    unfolding map_words
-    root_place = record { column = offset; from = root_range.0; most = root_range.1; long = holding_long map_words (node_table F rows) nodes₀ nodes S.in_nodes }
 
     rows_sound : Sound (column rows j) (root_at rows j p)
     rows_sound = root_sound R F rows S.good j l p e.0 (omega (arith, S.line))
@@ -151,15 +141,15 @@ module _ (R : Rules) (F : Formula) (rows : List Row) (nodes nodes₀ roots roots
     pub merge_asks : InRange (Branch r.pivot a b)
     merge_asks = rw (is_a, is_b) branch_range
 
-    pub select_asks : Place nodes j a × Place nodes j b × Sound (table_column nodes (j + 1)) a
-    select_asks = rw (is_a, is_b) (root_place r.a S.a_earlier, root_place r.b S.b_earlier, table_sound r.a S.a_earlier)
+    pub select_asks : Numbered a × Numbered b × Sound (table_column nodes (j + 1)) a
+    select_asks = rw (is_a, is_b) (root_range r.a S.a_earlier, root_range r.b S.b_earlier, table_sound r.a S.a_earlier)
 
     -- what a universal in the merge set gets, and another
-    pub merge_gets : (s : Set) → LeftSet R F j s → (m : MapEntry) → in_set r.merge j ≡ true
+    pub merge_gets : (s : Set) → LeftSet R F j s → (m : Result MapEntry Refusal) → in_set r.merge j ≡ true
         → Enters (not (has (set_of s) r.pivot)) not_left (record { node = Branch r.pivot a b; root = i }) m → Gets R F rows r i j (get_or (universals F.prefix) j 0) m
     merge_gets s L m e p = rw (map_fault, map_entry, e) (rw (L.members r.pivot, is_a, is_b) at p)
 
-    pub select_gets : (m : MapEntry) → in_set r.merge j ≡ false → Keeps (strict_select (table_column nodes (j + 1)) a b) m → Gets R F rows r i j (get_or (universals F.prefix) j 0) m
+    pub select_gets : (m : Result MapEntry Refusal) → in_set r.merge j ≡ false → Keeps (strict_select (table_column nodes (j + 1)) a b) m → Gets R F rows r i j (get_or (universals F.prefix) j 0) m
     select_gets m e p = rw (map_fault, map_entry, e) (subst (λ (s : KeptRoot). Keeps s m) (ap₂ (strict_select (table_column nodes (j + 1))) is_a is_b ∙ select_same) p)
 
 -- ---- the universals in order: the first fault that is to be given
@@ -193,14 +183,7 @@ module _ (R : Rules) (F : Formula) (rows : List Row) (r : Resolution) (i : ℕ) 
   abbrev entered : ℕ → ℕ → Entry
   entered = map_entry R rows i r (in_set r.merge)
 
-  -- a fault of a universal has a number, and its variable
-  fault_number : (j u : ℕ) → 1 ≤ (faulty j u).number
-  fault_number j u = by (in_set r.merge j) refl
-    where
-      by : (t : Bool) → in_set r.merge j ≡ t → 1 ≤ (faulty j u).number
-      by true e = rw (map_fault, e) (omega arith)
-      by false e = rw (map_fault, e) (omega arith)
-
+  -- a fault of a universal names it
   fault_variable : (j u : ℕ) → (faulty j u).variable ≡ u
   fault_variable j u = by (in_set r.merge j) refl
     where
@@ -220,44 +203,36 @@ module _ (R : Rules) (F : Formula) (rows : List Row) (r : Resolution) (i : ℕ) 
   done_none = (λ n h. absurd (omega arith), refl, refl)
 
   module _ (j : ℕ) (ns rs : List ℕ) (D : Done j ns rs) where
-    module _ (h : j < length us) (m : MapEntry) (G : Gets R F rows r i j (get_or us j 0) m) where
-      pub done_more : length us ≤ universals_most → m.refusal ≡ 0 → Done (j + 1) (set ns j m.node) (set rs j m.root)
-      done_more few z =
-          let q = enters_zero (faulty j (get_or us j 0)).number (entered j (get_or us j 0)) m (faulty j (get_or us j 0)).when (fault_number j (get_or us j 0)) G z in (
+    module _ (h : j < length us) where
+      pub done_more : length us ≤ universals_most → (m : MapEntry) → Gets R F rows r i j (get_or us j 0) (Ok m) → Done (j + 1) (set ns j m.node) (set rs j m.root)
+      done_more few m G =
+          let q = enters_entry (faulty j (get_or us j 0)).number (entered j (get_or us j 0)) (faulty j (get_or us j 0)).when m G in (
             below_more (λ (n : ℕ). (faulty n (get_or us n 0)).when ≡ false) j D.0 q.0,
             words_more entered us (λ (e : Entry). node_word e.node) no_node ns j m.node h few D.1 q.1,
             words_more entered us (λ (e : Entry). e.root) refl rs j m.root h few D.2 q.2,
           )
 
       -- the first fault
-      pub done_fails : (m.refusal ≡ 0 → ⊥) → (o : MapsMade) → o.refusal ≡ m.refusal → o.variable ≡ get_or us j 0
-          → AllGet R F rows r i o
-      done_fails z o p v =
-          let q = enters_given (faulty j (get_or us j 0)).number (entered j (get_or us j 0)) m (faulty j (get_or us j 0)).when G z in
-          rw (each_fails faulty us j h D.0 q.0) (p ∙ q.1, v ∙ sym (fault_variable j (get_or us j 0)), fault_number j (get_or us j 0))
+      pub done_fails : (k : Refusal) → Gets R F rows r i j (get_or us j 0) (Err k) → (v : ℕ) → v ≡ get_or us j 0
+          → AllGet R F rows r i (Err (record { refusal = k; variable = v }))
+      done_fails k G v e =
+          let q = enters_given (faulty j (get_or us j 0)).number (entered j (get_or us j 0)) (faulty j (get_or us j 0)).when k G in
+          rw (each_fails faulty us j h D.0 q.0) (q.1, e ∙ sym (fault_variable j (get_or us j 0)))
 
     -- none
-    pub done_all : length us ≤ j → (o : MapsMade) → o.refusal ≡ 0 → o.row.nodes ≡ ns → o.row.roots ≡ rs
-        → AllGet R F rows r i o
-    done_all h o z p q =
-        rw ((passes_each faulty us).1 (λ n k. D.0 n (omega arith))) (
-          z,
-          record {
-            nodes = p ∙ words_all entered us (λ (e : Entry). node_word e.node) no_node ns j h D.1;
-            roots = q ∙ words_all entered us (λ (e : Entry). e.root) refl rs j h D.2;
-          },
-        )
+    pub done_all : length us ≤ j → AllGet R F rows r i (Ok (record { nodes = ns; roots = rs }))
+    done_all h =
+        rw ((passes_each faulty us).1 (λ n k. D.0 n (omega arith))) (record {
+          nodes = words_all entered us (λ (e : Entry). node_word e.node) no_node ns j h D.1;
+          roots = words_all entered us (λ (e : Entry). e.root) refl rs j h D.2;
+        })
 
 -- ---- the game's universals
--- there are k, and left has the set of each
-abbrev pub Lefts : Rules → Formula → ℕ → List Set → Type 0
-Lefts R F k left = (k ≡ length (universals F.prefix)) × ((j : ℕ) → j < k → LeftSet R F j (get_or left j (record { word = 0 })))
-
 module _ (R : Rules) (F : Formula) (g : Game) (G : GameOf R F g) where
-  pub game_lefts : Lefts R F g.universals g.left
-  game_lefts = (G.universal_count, λ j h. let l : j < length (universals F.prefix) = omega (arith, G.universal_count) in record { offset = l; members = λ x. G.left j x l })
+  pub game_left : (j : ℕ) → j < g.universal_count → LeftSet R F j (get_or g.universals j nobody).left
+  game_left j h = let l : j < length (universals F.prefix) = omega (arith, G.universal_count) in record { offset = l; members = λ x. G.left j x l }
 
-  pub game_variable : (j : ℕ) → j < length (universals F.prefix) → get_or g.vars j 0 ≡ get_or (universals F.prefix) j 0
+  pub game_variable : (j : ℕ) → j < length (universals F.prefix) → (get_or g.universals j nobody).variable ≡ get_or (universals F.prefix) j 0
   unfolding padded
   game_variable j h =
-      ap (λ (l : List ℕ). get_or l j 0) G.vars ∙ get_or-append (universals F.prefix) (replicate (universals_most - length (universals F.prefix)) 0) 0 j h
+      sym (get_or-map (λ (u : Universal). u.variable) g.universals j nobody) ∙ ap (λ (l : List ℕ). get_or l j 0) G.vars ∙ get_or-append (universals F.prefix) (replicate (universals_most - length (universals F.prefix)) 0) 0 j h

@@ -6,7 +6,10 @@ use Prim.Native.Nat.{ℕ, zero, suc, ◌-◌, ◌*◌, ◌≤◌}
 use native.Mathlib.Omega.{arith}
 use lib.ListN.{length}
 use borrow.Author.Tests.{not-false}
+use Rattle.std.specs.Prelude.{Ok, Err}
 use Rattle.rules.specs.declared.Resolution.{Resolution}
+use Rattle.rules.specs.declared.refusals.Refusal.{Refusal}
+use Rattle.rules.specs.declared.refusals.Fault.{Fault as LineFault}
 use Rattle.rules.specs.declared.Line.TheVariants as L
 use Rattle.rules.specs.definitions.Layout.{set_words, line_words}
 use Rattle.rules.specs.definitions.Sets.{has}
@@ -19,12 +22,12 @@ use Rattle.theory.specs.laws.Formula.{has_existentials, proper_fits}
 use Rattle.theory.specs.laws.Lines.{passes_cons, neither, earlier_iff, good_words}
 use Rattle.rules.specs.definitions.Lines.{Entry, Row, no_row, earlier, row_at, clause_at, result, in_set, parent_faults, set_faults, result_faults, map_faults, map_entry, each, resolution_row, unless_found, line_faults, line_row, line_made, Rules}
 use Rattle.rules.specs.definitions.Tables.{clause_row}
+use Rattle.sets.specs.declared.Clause.{Clause}
 use Rattle.sets.specs.Values.{set_of, clause_of, clause_in, clause_in_row, length_clause_row}
 use Rattle.checker.specs.declared.game.Game.{Game}
-use Rattle.checker.specs.declared.axioms.Made.{Made}
-use Rattle.checker.specs.declared.resolutions.Joined.{Joined}
-use Rattle.checker.specs.declared.maps_row.MapsMade.{MapsMade}
+use Rattle.checker.specs.declared.rows.MapRow.{MapRow}
 use Rattle.checker.specs.Rows.{clause_part}
+use Rattle.checker.specs.Tables.{Held}
 use Rattle.checker.specs.Makes.{Makes, Standing, Ready}
 use Rattle.checker.specs.Resolutions.{table_result, clause_tests, Joins}
 use Rattle.checker.specs.MapRows.{Resolving, MakesMaps}
@@ -46,36 +49,36 @@ first_passes [] gs e = refl
 first_passes (f ∷ fs) gs e = let p = (passes_cons f fs).0 e in rw (first_of, p.0) (first_passes fs gs p.1)
 
 -- the clause of line a, read from the line table
-pub standing_read : (R : Rules) (F : Formula) (rows : List Row) (lines lines₀ nodes nodes₀ roots roots₀ : List ℕ) → Standing R F rows lines lines₀ nodes nodes₀ roots roots₀
-    → (a : ℕ) → 1 ≤ a → a ≤ length rows → clause_part lines a ≡ clause_at rows a
+pub standing_read : (R : Rules) (F : Formula) (rows : List Row) (lent T : Held) → Standing R F rows lent T
+    → (a : ℕ) → 1 ≤ a → a ≤ length rows → clause_part T.lines a ≡ clause_at rows a
 unfolding row_at
-standing_read R F rows lines lines₀ nodes nodes₀ roots roots₀ S zero o h = absurd (omega arith)
-standing_read R F rows lines lines₀ nodes nodes₀ roots roots₀ S (suc a) o h =
+standing_read R F rows lent T S zero o h = absurd (omega arith)
+standing_read R F rows lent T S (suc a) o h =
     let m : suc a - 1 ≡ a = omega arith in
     let W : Wide (2 * set_words) (λ (r : Row). clause_row r.clause) no_row rows
     = λ k p. length_clause_row _ (good_words R F rows (suc k) (S.good (suc k) (omega arith) (omega arith))) in
     rw m (
-    ap clause_in (table_part (2 * set_words) line_words (λ (r : Row). clause_row r.clause) no_row rows lines₀ lines W S.in_lines a h)
+    ap clause_in (table_part (2 * set_words) line_words (λ (r : Row). clause_row r.clause) no_row rows lent.lines T.lines W (ap (λ (t : Held). t.lines) S.words) a h)
     ∙ clause_in_row (clause_at rows (suc a)) (good_words R F rows (suc a) (S.good (suc a) o h))
     )
 
-module _ (R : Rules) (F : Formula) (rows : List Row) (g : Game) (clauses lines lines₀ nodes nodes₀ roots roots₀ : List ℕ) (i : ℕ) (S : Ready R F rows g clauses lines lines₀ nodes nodes₀ roots roots₀ i) where
+module _ (R : Rules) (F : Formula) (rows : List Row) (g : Game) (lent T : Held) (i : ℕ) (S : Ready R F rows g lent T i) where
   module _ (r : Resolution) where
     abbrev tests : List Fault
-    tests = clause_tests (set_of g.existentials) g.universals lines i r
+    tests = clause_tests (set_of g.existentials) g.universal_count T.lines i r
 
     existential_same : has (set_of g.existentials) r.pivot ≡ bound_by exists F.prefix r.pivot
     existential_same = ap (λ (s : List ℕ). has s r.pivot) S.whole.game.existential_set ∙ has_existentials F.prefix (proper_fits F S.whole.proper) r.pivot
 
     -- with both parents before line i the tests are the rules'
     module _ (a : earlier i r.a ≡ true) (b : earlier i r.b ≡ true) where
-      read_a : clause_part lines r.a ≡ clause_at rows r.a
-      read_a = let p = (earlier_iff i r.a).0 a in standing_read R F rows lines lines₀ nodes nodes₀ roots roots₀ S.standing r.a p.0 (omega (arith, p.1, S.line))
+      read_a : clause_part T.lines r.a ≡ clause_at rows r.a
+      read_a = let p = (earlier_iff i r.a).0 a in standing_read R F rows lent T S.standing r.a p.0 (omega (arith, p.1, S.line))
 
-      read_b : clause_part lines r.b ≡ clause_at rows r.b
-      read_b = let p = (earlier_iff i r.b).0 b in standing_read R F rows lines lines₀ nodes nodes₀ roots roots₀ S.standing r.b p.0 (omega (arith, p.1, S.line))
+      read_b : clause_part T.lines r.b ≡ clause_at rows r.b
+      read_b = let p = (earlier_iff i r.b).0 b in standing_read R F rows lent T S.standing r.b p.0 (omega (arith, p.1, S.line))
 
-      result_same : table_result lines r ≡ result rows r
+      result_same : table_result T.lines r ≡ result rows r
       result_same = ap₂ (λ (c d : Literals). resolvent c d r.pivot) read_a read_b
 
       tests_same : tests ≡ parent_faults F rows i r ++ (set_faults F r.merge ++ result_faults rows r)
@@ -122,15 +125,15 @@ module _ (R : Rules) (F : Formula) (rows : List Row) (g : Game) (clauses lines l
     faults_maps e = let p = tests_passed e in ap first_of (sym (all_same p.0 p.1)) ∙ first_passes tests maps e
 
     -- line i resolves
-    pub resolving : first_of tests ≡ passes → Resolving R F rows nodes nodes₀ roots roots₀ r i
+    pub resolving : first_of tests ≡ passes → Resolving R F rows T.nodes lent.nodes T.roots lent.roots r i
     resolving e =
         let p = tests_passed e in
         record {
           proper = S.whole.proper;
           third_ground = S.whole.game.third_ground;
           good = S.standing.good;
-          in_nodes = S.standing.in_nodes;
-          in_roots = S.standing.in_roots;
+          in_nodes = ap (λ (t : Held). t.nodes) S.standing.words;
+          in_roots = ap (λ (t : Held). t.roots) S.standing.words;
           line = S.line;
           few = S.within;
           a_earlier = (earlier_iff i r.a).0 p.0;
@@ -146,38 +149,35 @@ module _ (R : Rules) (F : Formula) (rows : List Row) (g : Game) (clauses lines l
     made_by t e = ap (λ (f : Found). unless_found f (resolution_row R F rows i r (in_set r.merge))) e
 
     -- a clause that is refused
-    pub stopped_line : (j : Joined) (m : Made) → Joins (first_of tests) (table_result lines r) j → (j.refusal ≡ 0 → ⊥) → m.refusal ≡ j.refusal → m.variable ≡ 0
-        → Makes (line_made R F rows i (L.Resolve r)) m
-    stopped_line j m J n e v = by (first_of tests) refl J
+    pub stopped_line : (k : Refusal) → Joins (first_of tests) (table_result T.lines r) (Err k) → Makes (line_made R F rows i (L.Resolve r)) (Err (record { refusal = k; variable = 0 }))
+    stopped_line k J = by (first_of tests) refl J
       where
-        by : (t : Found) → first_of tests ≡ t → Joins t (table_result lines r) j → Makes (line_made R F rows i (L.Resolve r)) m
-        by passes t K = absurd (n K.0)
-        by (fails k w) t K = rw (made_by (fails k w) (faults_fail k w t)) (e ∙ K.0, v ∙ sym K.2, K.1)
+        by : (t : Found) → first_of tests ≡ t → Joins t (table_result T.lines r) (Err k) → Makes (line_made R F rows i (L.Resolve r)) (Err (record { refusal = k; variable = 0 }))
+        by passes t K = absurd K
+        by (fails n w) t K = rw (made_by (fails n w) (faults_fail n w t)) (K.0, sym K.1)
 
     -- a clause that passes
-    pub joined_line : (j : Joined) → Joins (first_of tests) (table_result lines r) j → j.refusal ≡ 0
-        → (first_of tests ≡ passes) × (clause_of j.clause ≡ result rows r)
-    joined_line j J z = by (first_of tests) refl J
+    pub joined_line : (c : Clause) → Joins (first_of tests) (table_result T.lines r) (Ok c) → (first_of tests ≡ passes) × (clause_of c ≡ result rows r)
+    joined_line c J = by (first_of tests) refl J
       where
-        by : (t : Found) → first_of tests ≡ t → Joins t (table_result lines r) j → (first_of tests ≡ passes) × (clause_of j.clause ≡ result rows r)
-        by passes t K = let p = tests_passed t in (t, K.1 ∙ result_same p.0 p.1)
-        by (fails k w) t K = absurd (omega (arith, K.0, K.1))
+        by : (t : Found) → first_of tests ≡ t → Joins t (table_result T.lines r) (Ok c) → (first_of tests ≡ passes) × (clause_of c ≡ result rows r)
+        by passes t K = let p = tests_passed t in (t, K ∙ result_same p.0 p.1)
+        by (fails n w) t K = absurd K
 
-    -- maps that are refused
-    pub unmapped_line : (o : MapsMade) (m : Made) → first_of tests ≡ passes → MakesMaps (first_of maps) entries o → (o.refusal ≡ 0 → ⊥)
-        → m.refusal ≡ o.refusal → m.variable ≡ o.variable → Makes (line_made R F rows i (L.Resolve r)) m
-    unmapped_line o m p M n e v = by (first_of maps) refl M
-      where
-        by : (t : Found) → first_of maps ≡ t → MakesMaps t entries o → Makes (line_made R F rows i (L.Resolve r)) m
-        by passes t K = absurd (n K.0)
-        by (fails k w) t K = rw (made_by (fails k w) (faults_maps p ∙ t)) (e ∙ K.0, v ∙ K.1, K.2)
+    module _ (p : first_of tests ≡ passes) where
+      -- maps that are refused
+      pub unmapped_line : (e : LineFault) → MakesMaps (first_of maps) entries (Err e) → Makes (line_made R F rows i (L.Resolve r)) (Err e)
+      unmapped_line e M = by (first_of maps) refl M
+        where
+          by : (t : Found) → first_of maps ≡ t → MakesMaps t entries (Err e) → Makes (line_made R F rows i (L.Resolve r)) (Err e)
+          by passes t K = absurd K
+          by (fails n w) t K = rw (made_by (fails n w) (faults_maps p ∙ t)) K
 
-    -- the line's row
-    pub mapped_line : (o : MapsMade) (m : Made) → first_of tests ≡ passes → MakesMaps (first_of maps) entries o → o.refusal ≡ 0
-        → m.refusal ≡ 0 → clause_of m.clause ≡ result rows r → m.row ≡ o.row → Makes (line_made R F rows i (L.Resolve r)) m
-    unfolding resolution_row
-    mapped_line o m p M z e c w = by (first_of maps) refl M
-      where
-        by : (t : Found) → first_of maps ≡ t → MakesMaps t entries o → Makes (line_made R F rows i (L.Resolve r)) m
-        by passes t K = rw (made_by passes (faults_maps p ∙ t)) (e, c, rw w K.1)
-        by (fails k w) t K = absurd (omega (arith, K.0, K.2))
+      -- the line's row
+      pub mapped_line : (c : Clause) (o : MapRow) → clause_of c ≡ result rows r → MakesMaps (first_of maps) entries (Ok o) → Makes (line_made R F rows i (L.Resolve r)) (Ok (record { clause = c; row = o }))
+      unfolding resolution_row
+      mapped_line c o e M = by (first_of maps) refl M
+        where
+          by : (t : Found) → first_of maps ≡ t → MakesMaps t entries (Ok o) → Makes (line_made R F rows i (L.Resolve r)) (Ok (record { clause = c; row = o }))
+          by passes t K = rw (made_by passes (faults_maps p ∙ t)) (e, K)
+          by (fails n w) t K = absurd K

@@ -1,15 +1,16 @@
 -- A proof over a formula that the tables hold: what is asked of the tables, and what the answer says of them.
-use Rattle.std.specs.Prelude.{◌≡◌, List, [], ℕ, ◌+◌, ◌*◌, ◌≤◌, length, drop}
-use Rattle.rules.specs.definitions.Layout.{prefix_words, clause_words, line_words, map_words, head_bytes, record_bytes}
+use Rattle.std.specs.Prelude.{◌≡◌, Result, Ok, Err, List, [], ℕ, ◌+◌, ◌*◌, ◌≤◌, length, drop}
+use Rattle.rules.specs.declared.refusals.Refused.{Refused}
+use Rattle.rules.specs.definitions.Refusals.{refusal_number}
+use Rattle.rules.specs.definitions.Layout.{prefix_words, clause_words, head_bytes, record_bytes}
 use Rattle.rules.specs.definitions.Limits.{lines_most}
 use Rattle.rules.specs.definitions.Formula.{Formula}
 use Rattle.rules.specs.statements.Proper.{Proper}
 use Rattle.rules.specs.definitions.File.{split}
 use Rattle.rules.specs.definitions.Checking.{Checked, base, rules_of, all_lines, when_passed}
 use Rattle.rules.specs.definitions.Checking.Checked.{rejected, accepted}
-use Rattle.rules.specs.definitions.Tables.{holding, prefix_table, clause_table, line_table, node_table, root_table}
-use Rattle.checker.specs.declared.check.Findings.{Findings}
-use Rattle.checker.specs.Runs.{KeptPast}
+use Rattle.rules.specs.definitions.Tables.{holding, prefix_table, clause_table}
+use Rattle.checker.specs.Tables.{Held, held_in, KeptPast}
 
 -- the tables hold the formula, which has so many clauses
 pub record InTables (F : Formula) (prefix : List ℕ) (count : ℕ) (clauses : List ℕ) : Type 0 where
@@ -34,12 +35,9 @@ pub record Headed (proof : List ℕ) (n : ℕ) : Type 0 where
 abbrev pub lines_checked : Formula → ℕ → List ℕ → Checked
 lines_checked F n proof = when_passed base F (all_lines (rules_of base F proof) F (split n (drop head_bytes proof)))
 
--- the refusal's number, place and variable; or the line count, and the rows in the tables
-abbrev pub Checks : Checked → List ℕ → List ℕ → List ℕ → List ℕ → List ℕ → List ℕ → Findings → Type 0
-Checks (rejected n at v) lines nodes roots lines' nodes' roots' r =
-    (r ≡ record { number = n; place = at; variable = v; lines = 0 }) × (1 ≤ n) × KeptPast lines nodes roots lines' nodes' roots'
-Checks (accepted F rows) lines nodes roots lines' nodes' roots' r =
-    (r ≡ record { number = 0; place = 0; variable = 0; lines = length rows })
-    × (lines' ≡ holding line_words (line_table F rows) lines)
-    × (nodes' ≡ holding map_words (node_table F rows) nodes)
-    × (roots' ≡ holding map_words (root_table F rows) roots)
+-- the refusal, its place and its variable; or the line count, and the rows in the tables
+abbrev pub Checks : Checked → Held → Held → Result ℕ Refused → Type 0
+Checks (rejected n at v) lent T (Ok m) = ⊥
+Checks (rejected n at v) lent T (Err e) = (refusal_number e.refusal ≡ n) × (e.place ≡ at) × (e.variable ≡ v) × KeptPast lent T
+Checks (accepted F rows) lent T (Err e) = ⊥
+Checks (accepted F rows) lent T (Ok m) = (m ≡ length rows) × (T ≡ held_in F rows lent)

@@ -1,5 +1,6 @@
 pub mod Game
 pub mod Rows
+pub mod Tables
 pub mod Makes
 pub mod Resolutions
 pub mod Selects

@@ -1,10 +1,12 @@
 -- The maps of a resolution: what is asked of the tables that hold the rows so far, and what each universal and all of them get.
-use Rattle.std.specs.Prelude.{◌≡◌, Bool, true, false, not, List, ℕ, suc, ◌+◌, ◌-◌, ◌*◌, ◌≤◌, ◌<◌, length, get_or}
+use Rattle.std.specs.Prelude.{◌≡◌, Result, Ok, Err, Bool, true, false, not, List, ℕ, suc, ◌+◌, ◌-◌, ◌*◌, ◌≤◌, ◌<◌, length, get_or}
 use Rattle.rules.specs.declared.Resolution.{Resolution}
 use Rattle.rules.specs.declared.Node.TheVariants.{None}
+use Rattle.rules.specs.declared.refusals.Refusal.{Refusal}
+use Rattle.rules.specs.declared.refusals.Fault.{Fault}
 use Rattle.rules.specs.definitions.Limits.{universals_most, lines_most}
 use Rattle.rules.specs.definitions.Layout.{map_words}
-use Rattle.rules.specs.definitions.Refusals.{no_select}
+use Rattle.rules.specs.definitions.Refusals.{refusal_number, no_select}
 use Rattle.rules.specs.definitions.Sets.{has}
 use Rattle.rules.specs.definitions.Faults.{Found, first_of}
 use Rattle.rules.specs.definitions.Faults.Found.{passes, fails}
@@ -19,7 +21,7 @@ use Rattle.rules.specs.definitions.Tables.{holding, node_table, root_table}
 use Rattle.sets.specs.declared.Set.{Set}
 use Rattle.sets.specs.Values.{set_of}
 use Rattle.checker.specs.declared.maps_row.MapEntry.{MapEntry}
-use Rattle.checker.specs.declared.maps_row.MapsMade.{MapsMade}
+use Rattle.checker.specs.declared.rows.MapRow.{MapRow}
 use Rattle.checker.specs.Rows.{RowOf}
 
 -- line i resolves after the rows that the tables hold: its parents come before it, and its pivot is existential
@@ -48,29 +50,40 @@ pub record LeftSet (R : Rules) (F : Formula) (j : ℕ) (s : Set) : Type 0 where
   pub offset : j < length (universals F.prefix)
   pub members : (x : ℕ) → has (set_of s) x ≡ R.left x (get_or (universals F.prefix) j 0)
 
+-- the place of a word in a table of the full length: the offset of a universal, and a line
+pub record Place (table : List ℕ) (j i : ℕ) : Type 0 where
+  pub offset : j < universals_most
+  pub from : 1 ≤ i
+  pub most : i ≤ lines_most
+  pub long : map_words ≤ length table
+
 -- the word of a root table for the universal at offset j, lines counted from 1
 abbrev pub root_word : List ℕ → ℕ → ℕ → ℕ
 root_word roots j i = get_or roots (universals_most * (i - 1) + j) 0
 
--- the refusal's number where the fault is to be given, else the words of the entry
-abbrev pub Enters : Bool → ℕ → Entry → MapEntry → Type 0
-Enters true n e m = m.refusal ≡ n
-Enters false n e m = (m.refusal ≡ 0) × (m.node ≡ node_word e.node) × (m.root ≡ e.root)
+-- the refusal where the fault is to be given, else the words of the entry
+abbrev pub Enters : Bool → ℕ → Entry → Result MapEntry Refusal → Type 0
+Enters true n e (Ok m) = ⊥
+Enters true n e (Err k) = refusal_number k ≡ n
+Enters false n e (Ok m) = (m.node ≡ node_word e.node) × (m.root ≡ e.root)
+Enters false n e (Err k) = ⊥
 
 -- select's answer: no node and the root that is kept, or 31
-abbrev pub Keeps : KeptRoot → MapEntry → Type 0
+abbrev pub Keeps : KeptRoot → Result MapEntry Refusal → Type 0
 Keeps s m = Enters (not (defined s)) no_select (record { node = None; root = kept_root s }) m
 
 -- what the universal u at offset j gets
-abbrev pub Gets : Rules → Formula → List Row → Resolution → ℕ → ℕ → ℕ → MapEntry → Type 0
+abbrev pub Gets : Rules → Formula → List Row → Resolution → ℕ → ℕ → ℕ → Result MapEntry Refusal → Type 0
 Gets R F rows r i j u m =
     Enters (map_fault R rows r (in_set r.merge) j u).when (map_fault R rows r (in_set r.merge) j u).number (map_entry R rows i r (in_set r.merge) j u) m
 
--- the row of all entries, or the first fault's number and variable
-abbrev pub MakesMaps : Found → List Entry → MapsMade → Type 0
-MakesMaps passes es m = (m.refusal ≡ 0) × RowOf es m.row
-MakesMaps (fails n v) es m = (m.refusal ≡ n) × (m.variable ≡ v) × (1 ≤ n)
+-- the row of all entries, or the first fault and its variable
+abbrev pub MakesMaps : Found → List Entry → Result MapRow Fault → Type 0
+MakesMaps passes es (Ok m) = RowOf es m
+MakesMaps passes es (Err e) = ⊥
+MakesMaps (fails n v) es (Ok m) = ⊥
+MakesMaps (fails n v) es (Err e) = (refusal_number e.refusal ≡ n) × (e.variable ≡ v)
 
 -- what all universals get
-abbrev pub AllGet : Rules → Formula → List Row → Resolution → ℕ → MapsMade → Type 0
+abbrev pub AllGet : Rules → Formula → List Row → Resolution → ℕ → Result MapRow Fault → Type 0
 AllGet R F rows r i m = MakesMaps (first_of (map_faults R F rows r (in_set r.merge))) (each (map_entry R rows i r (in_set r.merge)) (universals F.prefix) 0) m

@@ -1,7 +1,8 @@
 -- A resolution's tests and row as the tables give them.
-use Rattle.std.specs.Prelude.{◌≡◌, not, ◌||◌, List, [], ◌∷◌, ℕ, ◌^◌, ◌≤◌, leb}
+use Rattle.std.specs.Prelude.{◌≡◌, Result, Ok, Err, not, ◌||◌, List, [], ◌∷◌, ℕ, ◌^◌, leb}
 use Rattle.rules.specs.declared.Resolution.{Resolution}
-use Rattle.rules.specs.definitions.Refusals.{no_parent, no_pivot, lacks_plain, lacks_negated, no_universal, result_both_ways}
+use Rattle.rules.specs.declared.refusals.Refusal.{Refusal}
+use Rattle.rules.specs.definitions.Refusals.{refusal_number, no_parent, no_pivot, lacks_plain, lacks_negated, no_universal, result_both_ways}
 use Rattle.rules.specs.definitions.Sets.{has}
 use Rattle.rules.specs.definitions.Sets.{Set as Variables}
 use Rattle.rules.specs.definitions.Faults.{Fault, fault, Found}
@@ -9,8 +10,8 @@ use Rattle.rules.specs.definitions.Faults.Found.{passes, fails}
 use Rattle.rules.specs.definitions.Formula.{resolvent, two_faced}
 use Rattle.rules.specs.definitions.Formula.{Clause as Literals}
 use Rattle.rules.specs.definitions.Lines.{earlier}
+use Rattle.sets.specs.declared.Clause.{Clause}
 use Rattle.sets.specs.Values.{clause_of}
-use Rattle.checker.specs.declared.resolutions.Joined.{Joined}
 use Rattle.checker.specs.Rows.{clause_part}
 
 -- the parents' clauses in the line table, resolved
@@ -28,7 +29,9 @@ clause_tests es k lines i r =
     ∷ fault result_both_ways (two_faced (table_result lines r))
     ∷ []
 
--- the clause, or the number of the first test that fails
-abbrev pub Joins : Found → Literals → Joined → Type 0
-Joins passes c j = (j.refusal ≡ 0) × (clause_of j.clause ≡ c)
-Joins (fails n v) c j = (j.refusal ≡ n) × (1 ≤ n) × (v ≡ 0)
+-- the clause, or the refusal by the first test that fails, which names no variable
+abbrev pub Joins : Found → Literals → Result Clause Refusal → Type 0
+Joins passes c (Ok d) = clause_of d ≡ c
+Joins passes c (Err k) = ⊥
+Joins (fails n v) c (Ok d) = ⊥
+Joins (fails n v) c (Err k) = (refusal_number k ≡ n) × (v ≡ 0)

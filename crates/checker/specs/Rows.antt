@@ -13,10 +13,6 @@ use Rattle.checker.specs.declared.rows.MapRow.{MapRow}
 abbrev pub clause_part : List ℕ → ℕ → Literals
 clause_part t i = clause_in (take (2 * set_words) (drop (2 * set_words * (i - 1)) t))
 
--- the universals' variables
-abbrev pub players : ℕ → List ℕ → List ℕ
-players k vars = take k vars
-
 -- the words of entries, a place for each of 16 universals
 abbrev pub node_words : List Entry → List ℕ
 node_words es = map (λ (e : Entry). node_word e.node) es

@@ -3,14 +3,12 @@ use Rattle.rules.specs.definitions.Maps.{Column}
 use Rattle.rules.specs.definitions.Lines.{strict, select}
 use Rattle.rules.specs.definitions.Lines.{Selected as KeptRoot}
 use Rattle.rules.specs.definitions.Lines.Selected.{kept, undefined}
-use Rattle.checker.specs.declared.select.Selected.{Selected}
-use Rattle.checker.specs.declared.select.Selected.TheVariants.{Kept, Undefined}
-use Rattle.std.specs.Prelude.{ℕ}
+use Rattle.std.specs.Prelude.{ℕ, Option, Some, None}
 
 -- the definitions' answer that a given one stands for
-abbrev pub answered : Selected → KeptRoot
-answered (Kept r) = kept r
-answered Undefined = undefined
+abbrev pub answered : Option ℕ → KeptRoot
+answered (Some r) = kept r
+answered None = undefined
 
 -- 01's select of two roots of a column
 abbrev pub strict_select : Column → ℕ → ℕ → KeptRoot

@@ -10,3 +10,4 @@ pub mod resolutions;
 pub mod rows;
 pub mod run;
 pub mod select;
+pub mod tables;

@@ -9,81 +9,53 @@ ghost use Rattle.checker.specs.Resolutions.{clause_tests, table_result, Joins};
 
 use crate::rows;
 use rules::Resolution;
-use rules::limits::{
-    LACKS_NEGATED, LACKS_PLAIN, NO_PARENT, NO_PIVOT, NO_UNIVERSAL, RESULT_BOTH_WAYS,
-};
+use rules::refusals::Refusal;
 use sets::{Clause, Set};
-
-// The clause, or the refusal's number.
-#[derive(Clone, Copy)]
-pub struct Joined {
-    pub clause: Clause,
-    pub refusal: u32,
-}
 
 // A line before line i.
 fn is_earlier(i: u32, a: u32) -> bool
     ensures { result ≡ earlier i a }
 {
-    if a < 1 {
-        return false;
-    }
-    if i <= a {
-        return false;
-    }
-    true
+    1 <= a && a < i
 }
 
-// The refusal with this number.
-fn stop(refusal: u32) -> Joined
-    ensures { result.refusal ≡ refusal }
-{
-    Joined {
-        clause: Clause::none(),
-        refusal,
-    }
-}
-
-// Both parents without the pivot's literals, joined.
+// Both parents without the pivot's literals, joined; or the first of 24 to 29 that refuses.
+// Kept: the line table alone, since ProofRows would ask a caller for two tables more.
+#[tactic(auto, using(crate::proofs::Joins::joins), unfolding(rules::specs::definitions::Faults::first_of, sets::specs::Values::clause_of))]
 pub fn join_parents(
     existentials: Set,
     universals: u32,
     lines: &[u64],
     r: Resolution,
     i: u32,
-) -> Joined
+) -> Result<Clause, Refusal>
     requires { (line_words ≤ length lines.now) × (i ≤ lines_most) × (universals ≤ universals_most) }
     ensures { Joins (first_of (clause_tests (set_of existentials) universals lines.now i r)) (table_result lines.now r) result }
 {
     let a = r.a as u32;
     let b = r.b as u32;
     let x = r.pivot as u32;
-    if !is_earlier(i, a) {
-        return stop(NO_PARENT);
-    }
-    if !is_earlier(i, b) {
-        return stop(NO_PARENT);
+    if !is_earlier(i, a) || !is_earlier(i, b) {
+        return Err(Refusal::NoParent);
     }
     if !existentials.has(x) {
-        return stop(NO_PIVOT);
+        return Err(Refusal::NoPivot);
     }
     let first = rows::clause_at(lines, a);
     let second = rows::clause_at(lines, b);
-    let plain = first.plain;
-    if !plain.has(x) {
-        return stop(LACKS_PLAIN);
+    if !first.plain.has(x) {
+        return Err(Refusal::LacksPlain);
     }
-    let negated = second.negated;
-    if !negated.has(x) {
-        return stop(LACKS_NEGATED);
+    if !second.negated.has(x) {
+        return Err(Refusal::LacksNegated);
     }
     let most = 1u32 << universals;
     if most <= r.merge as u32 {
-        return stop(NO_UNIVERSAL);
+        return Err(Refusal::NoUniversal);
     }
     let clause = first.resolvent(second, x);
     if clause.two_faced() {
-        return stop(RESULT_BOTH_WAYS);
+        return Err(Refusal::ResultBothWays);
     }
-    Joined { clause, refusal: 0 }
+    Ok(clause)
 }

@@ -9,20 +9,11 @@ use rules::limits::ROW_WORDS;
 use sets::Clause;
 
 // A place for each of 16 universals, unused places zero.
+// Kept: two arrays, since they are the rows of two tables that C lends, each copied whole into its own.
 #[derive(Clone, Copy)]
 pub struct MapRow {
     pub nodes: [u32; ROW_WORDS],
     pub roots: [u32; ROW_WORDS],
-}
-
-// The row that is lent becomes the words of `words`.
-fn copy_row(row: &mut [u32], words: [u32; ROW_WORDS])
-    requires { length row.old ≡ universals_most }
-    ensures { row.new ≡ words }
-{
-    for j in 0..ROW_WORDS {
-        row[j] = words[j];
-    }
 }
 
 // The row of nodes and the row of roots that are lent become those of `row`.
@@ -30,10 +21,8 @@ pub fn write_row(nodes: &mut [u32], roots: &mut [u32], row: MapRow)
     requires { (length nodes.old ≡ universals_most) × (length roots.old ≡ universals_most) }
     ensures { (nodes.new ≡ row.nodes) × (roots.new ≡ row.roots) }
 {
-    let n = row.nodes;
-    let r = row.roots;
-    copy_row(&mut nodes[..], n);
-    copy_row(&mut roots[..], r);
+    nodes.copy_from_slice(&row.nodes);
+    roots.copy_from_slice(&row.roots);
 }
 
 // The clause in row i of a table of clauses, rows counted from 1.

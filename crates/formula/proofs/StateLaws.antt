@@ -1,4 +1,4 @@
--- States that stand for blocks and clauses: within their limits, and what stands after one token more.
+-- States that stand for blocks and clauses: how many variables are bound, and what stands after one token more.
 use mathlib.Core.Path.{◌≡◌, refl, sym, ap, ◌∙◌, subst}
 use mathlib.Core.Bool.{Bool, true, false, ◌||◌, or_comm, or-false}
 use mathlib.Core.Logic.{by_cases}
@@ -11,21 +11,21 @@ use lib.ListN.{length, length-append}
 use borrow.Author.Tests.{eq-eqb, ne_eqb, le-leb, lt-leb}
 use Rattle.rules.specs.definitions.Limits.{variables_most, universals_most, clauses_most}
 use Rattle.rules.specs.definitions.Layout.{universal_mark, set_words}
-use Rattle.rules.specs.definitions.Sets.{has}
+use Rattle.rules.specs.definitions.Sets.{none, has, with}
 use Rattle.theory.specs.laws.Sets.{has_none, has_with}
 use Rattle.rules.specs.definitions.Formula as formula
 use Rattle.rules.specs.definitions.Formula.{Bound, bound, universals}
 use Rattle.theory.specs.laws.Formula.{eqb_comm, bound_snoc, length_snoc, universals_snoc_exists, universals_snoc_forall}
 use Rattle.rules.specs.definitions.Reading as reading
-use Rattle.rules.specs.definitions.Reading.Next.{go}
 use Rattle.rules.specs.definitions.Tables.{bound_word}
-use Rattle.sets.specs.declared.Clause.{Clause}
-use Rattle.sets.specs.Values.{set_of, clause_of}
+use Rattle.sets.specs.declared.Set.{Set}
+use Rattle.sets.specs.Values.{set_of}
+use Rattle.formula.specs.declared.parts.Prefix.{Prefix}
 use Rattle.formula.specs.declared.states.Place.{Place}
 use Rattle.formula.specs.declared.states.Place.TheVariants as P
 use Rattle.formula.specs.declared.states.State.{State}
-use Rattle.formula.specs.declared.states.Next.TheVariants as N
-use Rattle.formula.specs.States.{quant_of, bound_as, place_of, state_of, tally, Room, Stands, After, Small, moved_to, variables_to, count_to, ended_at, Begun, Binds}
+use Rattle.formula.specs.Tallies.{tally}
+use Rattle.formula.specs.States.{quant_of, bound_as, Room, Kept, Stands}
 
 -- ---- how many of the variables 1 to n have p
 tally_in : (p : ℕ → Bool) (n : ℕ) → p (suc n) ≡ true → tally p (suc n) ≡ suc (tally p n)
@@ -36,7 +36,7 @@ tally_out : (p : ℕ → Bool) (n : ℕ) → p (suc n) ≡ false → tally p (su
 unfolding tally
 tally_out p n e = rw (tally, e)
 
-tally_le : (p : ℕ → Bool) (n : ℕ) → tally p n ≤ n
+pub tally_le : (p : ℕ → Bool) (n : ℕ) → tally p n ≤ n
 unfolding tally
 tally_le p zero = omega arith
 tally_le p (suc n) = by (p (suc n)) refl (tally_le p n)
@@ -75,6 +75,24 @@ tally_more p q v (suc n) l m e h = by_cases (dec_lt v (suc n)) (λ d. below d (t
         let same : tally q n ≡ tally p n = tally_same p q n (λ u k. h u ∙ rw (ne_eqb v u (λ x. omega arith)) (or-false (p u))) in
         omega (arith, tally_in q n has_it, same, tally_out p n (subst (λ (k : ℕ). p k ≡ false) d e))
 
+-- none has it
+tally_zero : (p : ℕ → Bool) (n : ℕ) → ((u : ℕ) → p u ≡ false) → 0 ≡ tally p n
+unfolding tally
+tally_zero p zero h = refl
+tally_zero p (suc n) h = tally_zero p n h ∙ sym (tally_out p n (h (suc n)))
+
+pub tally_none : (s : Set) → set_of s ≡ none set_words → 0 ≡ tally (has (set_of s)) variables_most
+tally_none s e = tally_zero (has (set_of s)) variables_most (λ v. ap (λ (t : List ℕ). has t v) e ∙ has_none set_words v)
+
+-- a set with one variable more
+module _ (s r : Set) (v : ℕ) (l : 1 ≤ v) (m : v ≤ variables_most) (e : set_of r ≡ with (set_of s) v) where
+  has_more : (u : ℕ) → has (set_of r) u ≡ (has (set_of s) u || eqb v u)
+  unfolding set_of
+  has_more u = ap (λ (t : List ℕ). has t u) e ∙ has_with (set_of s) v u l (omega arith) ∙ rw (eqb_comm u v) (or_comm (eqb v u) (has (set_of s) u))
+
+  pub tally_with : has (set_of s) v ≡ false → tally (has (set_of r)) variables_most ≡ suc (tally (has (set_of s)) variables_most)
+  tally_with n = tally_more (has (set_of s)) (has (set_of r)) v variables_most l m n has_more
+
 -- ---- a state that stands for something is within its limits
 room_done : (p : Place) (done count : ℕ) → Room p done count → done ≤ count
 room_done P.Mark done count h = omega arith
@@ -87,99 +105,35 @@ room_done P.AtClause done count h = h
 room_done (P.InClause c) done count h = omega arith
 
 module _ (s : State) (bs : List Bound) (cs : List formula.Clause) (h : Stands s bs cs) where
+  pub done_count : s.done ≤ s.header.count
+  done_count = room_done s.place s.done s.header.count h.room
+
   pub few_blocks : length bs ≤ variables_most
-  few_blocks = omega (arith, h.apart, tally_le (bound bs) variables_most)
+  few_blocks = omega (arith, h.kept.placed, s.prefix.counted, tally_le (has (set_of s.prefix.bound)) variables_most)
 
   pub few_clauses : length cs ≤ clauses_most
-  few_clauses = omega (arith, h.done, h.count, room_done s.place s.done s.count h.room)
+  few_clauses = omega (arith, h.kept.done_all, s.header.few_clauses, done_count)
 
-  pub stands_small : Small s
-  stands_small = record {
-    variables = h.variables;
-    placed = omega (arith, h.placed, few_blocks);
-    universals = h.few;
-    done = omega (arith, h.done, few_clauses);
-    room = h.room;
+-- ---- what is counted, with one variable more
+module _ (p : Prefix) (done : ℕ) (bs : List Bound) (cs : List formula.Clause) (h : Kept p done bs cs) where
+  pub kept_bind : (r : Prefix) (v : ℕ) (universal : Bool) → 1 ≤ v → v ≤ variables_most → (set_of r.bound ≡ with (set_of p.bound) v) × (r.placed ≡ p.placed + 1) × (r.universals ≡ length (universals (bs ++ (bound_as universal v ∷ []))))
+      → Kept r done (bs ++ (bound_as universal v ∷ [])) cs
+  kept_bind r v universal l m (e, f, g) = record {
+    known = λ u. has_more p.bound r.bound v l m e u ∙ ap (λ (t : Bool). t || eqb v u) (h.known u) ∙ sym (bound_snoc bs (bound_as universal v) u);
+    placed = omega (arith, f, h.placed, length_snoc bs (bound_as universal v));
+    universals = g;
+    done_all = h.done_all;
   }
 
-  -- with another place
-  pub stands_moved : (p : Place) → Room p s.done s.count → Stands (moved_to s p) bs cs
-  stands_moved p r = record {
-    variables = h.variables;
-    count = h.count;
-    known = h.known;
-    placed = h.placed;
-    apart = h.apart;
-    universals = h.universals;
-    few = h.few;
-    done = h.done;
-    room = r;
-  }
-
-  -- with the header's V, and with its clause count
-  pub stands_variables : (n : ℕ) → n ≤ variables_most → s.done ≡ 0 → Stands (variables_to s n) bs cs
-  stands_variables n m r = record {
-    variables = m;
-    count = h.count;
-    known = h.known;
-    placed = h.placed;
-    apart = h.apart;
-    universals = h.universals;
-    few = h.few;
-    done = h.done;
-    room = r;
-  }
-
-  pub stands_count : (n : ℕ) → n ≤ clauses_most → s.done ≡ 0 → Stands (count_to s n) bs cs
-  stands_count n m r = record {
-    variables = h.variables;
-    count = m;
-    known = h.known;
-    placed = h.placed;
-    apart = h.apart;
-    universals = h.universals;
-    few = h.few;
-    done = h.done;
-    room = omega arith;
-  }
-
-  -- with one clause more
-  pub stands_ended : (c : formula.Clause) → s.done < s.count → Stands (ended_at s) bs (cs ++ (c ∷ []))
-  stands_ended c r = record {
-    variables = h.variables;
-    count = h.count;
-    known = h.known;
-    placed = h.placed;
-    apart = h.apart;
-    universals = h.universals;
-    few = h.few;
-    done = omega (arith, h.done, length-append cs (c ∷ []));
-    room = omega arith;
-  }
-
-  -- with one variable more
-  pub stands_bind : (v : ℕ) (universal : Bool) (us : ℕ) (r : State) → Binds s v universal us r → 1 ≤ v → v ≤ variables_most → bound bs v ≡ false
-      → us ≡ length (universals (bs ++ (bound_as universal v ∷ []))) → us ≤ universals_most → s.done ≤ s.count
-      → Stands r (bs ++ (bound_as universal v ∷ [])) cs
-  unfolding set_of
-  stands_bind v universal us r b l m n e f d = subst (λ (t : State). Stands t (bs ++ (bound_as universal v ∷ [])) cs) (sym b.whole) record {
-    variables = h.variables;
-    count = h.count;
-    known = known;
-    placed = omega (arith, h.placed, length_snoc bs (bound_as universal v));
-    apart = length_snoc bs (bound_as universal v) ∙ ap suc h.apart ∙ sym (tally_more (bound bs) (bound (bs ++ (bound_as universal v ∷ []))) v variables_most l m n (bound_snoc bs (bound_as universal v)));
-    universals = e;
-    few = f;
-    done = h.done;
-    room = d;
-  }
-    where
-      known : (u : ℕ) → has (set_of r.bound) u ≡ bound (bs ++ (bound_as universal v ∷ [])) u
-      known u =
-          ap (λ (t : List ℕ). has t u) b.bound_with
-          ∙ has_with (set_of s.bound) v u l (omega arith)
-          ∙ rw (h.known u, eqb_comm u v) (or_comm (eqb v u) (bound bs u))
-          ∙ sym (bound_snoc bs (bound_as universal v) u)
+-- before the first token
+pub kept_begin : (p : Prefix) → set_of p.bound ≡ none set_words → p.placed ≡ 0 → p.universals ≡ 0 → Kept p 0 [] []
+unfolding bound universals
+kept_begin p e f g = record {
+  known = λ v. ap (λ (t : List ℕ). has t v) e ∙ has_none set_words v;
+  placed = f;
+  universals = g;
+  done_all = refl;
+}
 
 -- ---- one variable more, by its quantifier
 module _ (bs : List Bound) (v : ℕ) (universal : Bool) where
@@ -205,40 +159,3 @@ module _ (st : reading.State) (universal : Bool) where
 
   pub full_never : universal ≡ false → reading.full st (quant_of universal) ≡ false
   full_never e = rw e
-
--- ---- what one token makes, from what a step's functions give back
-module _ (at : ℕ) (s r : State) (bs : List Bound) (cs : List formula.Clause) (n : reading.Next) (h : Stands s bs cs) where
-  pub after_moved : (p : Place) → r ≡ moved_to s p → Room p s.done s.count → n ≡ go (reading.moved (state_of s bs cs) (place_of p)) → After at bs cs n (N.Go r)
-  after_moved p e d f =
-      (f ∙ ap (λ (t : State). go (state_of t bs cs)) (sym e), subst (λ (t : State). Stands t bs cs) (sym e) (stands_moved s bs cs h p d))
-
-  pub after_ended : (c : Clause) → r ≡ ended_at s → s.done < s.count → n ≡ go (reading.clause_ended (state_of s bs cs) (clause_of c)) → After at bs cs n (N.Ended c r)
-  after_ended c e d f = (
-    f ∙ ap (λ (t : State). go (state_of t bs (cs ++ (clause_of c ∷ [])))) (sym e),
-    subst (λ (t : State). Stands t bs (cs ++ (clause_of c ∷ []))) (sym e) (stands_ended s bs cs h (clause_of c) d),
-  )
-
-  pub after_bind : (v w : ℕ) (universal : Bool) (us : ℕ) → Binds s v universal us r → 1 ≤ v → v ≤ variables_most → bound bs v ≡ false
-      → us ≡ length (universals (bs ++ (bound_as universal v ∷ []))) → us ≤ universals_most → s.done ≤ s.count → w ≡ bound_word (bound_as universal v)
-      → n ≡ go (reading.bind (state_of s bs cs) (quant_of universal) v) → After at bs cs n (N.Bind w r)
-  after_bind v w universal us b l m k e f d g i = (
-    bound_as universal v,
-    i ∙ ap (λ (t : State). go (state_of t (bs ++ (bound_as universal v ∷ [])) cs)) (sym b.whole),
-    g,
-    stands_bind s bs cs h v universal us r b l m k e f d,
-  )
-
--- ---- before the first token
-pub stands_begin : (s : State) → Begun s → Stands s [] []
-unfolding tally bound universals
-stands_begin s b = subst (λ (t : State). Stands t [] []) (sym b.whole) record {
-  variables = omega arith;
-  count = omega arith;
-  known = λ v. ap (λ (t : List ℕ). has t v) b.none_bound ∙ has_none set_words v;
-  placed = refl;
-  apart = refl;
-  universals = refl;
-  few = omega arith;
-  done = refl;
-  room = refl;
-}

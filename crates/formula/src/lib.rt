@@ -2,7 +2,9 @@
 #![tactic(auto)]
 
 mod numbers;
+mod parts;
 pub mod reading;
 mod states;
 pub mod tables;
+mod tokens;
 mod words;

@@ -1,119 +1,87 @@
-// Bytes to tokens: separators, comments, where a token begins and where it ends.
-ghost use Rattle.std.specs.Prelude.{◌≡◌, true, false, ◌∷◌, [], ◌+◌, ◌≤◌, ◌<◌, length, drop};
-ghost use Rattle.rules.specs.definitions.Text.{separator, token_byte, lead, uncommented, spelled};
+// The bytes of a text: separators, comments, and what is left of the tokens.
+ghost use Rattle.std.specs.Prelude.{◌≡◌, false, ◌∷◌, [], ◌+◌, ◌≤◌, length, drop};
+ghost use Rattle.std.specs.List.{take_while};
+ghost use Rattle.rules.specs.definitions.Limits.{text_most};
+ghost use Rattle.rules.specs.definitions.Text.{separator, token_byte, uncommented, spelled};
 ghost use Rattle.rules.specs.definitions.Reading.{word_cnf};
 
-const SPACE: u8 = 32;
+const SPACE: u8 = b' ';
 
-const TAB: u8 = 9;
+const TAB: u8 = b'\t';
 
-const RETURN: u8 = 13;
+const RETURN: u8 = b'\r';
 
-const LINE_FEED: u8 = 10;
+const LINE_FEED: u8 = b'\n';
 
-const LETTER_C: u8 = 99;
-
-const LETTER_N: u8 = 110;
-
-const LETTER_F: u8 = 102;
+const LETTER_C: u8 = b'c';
 
 // Whether a byte is a space, tab, CR or LF.
 pub fn is_separator(b: u8) -> bool
     ensures { result ≡ separator b }
 {
-    if b == SPACE {
-        return true;
-    }
-    if b == TAB {
-        return true;
-    }
-    if b == RETURN {
-        return true;
-    }
-    b == LINE_FEED
+    matches!(b, SPACE | TAB | RETURN | LINE_FEED)
 }
 
-// The first place at or after `from` that holds no separator, or the end.
-pub fn skip(text: &[u8], from: usize) -> usize
-    requires { from ≤ length text.now }
-    ensures { (result ≡ from + lead separator (drop from text.now)) × (result ≤ length text.now) }
-{
-    let mut at = from;
-    while at < text.len() {
-        if is_separator(text[at]) {
-            at += 1;
-        } else {
-            return at;
-        }
-    }
-    at
+// A token: its offset in the text, and its bytes.
+#[derive(Clone, Copy)]
+pub struct Token<'a> {
+    pub at: u32,
+    pub bytes: &'a [u8],
 }
 
-// The first place at or after `from` that holds a separator, or the end.
-pub fn word_end(text: &[u8], from: usize) -> usize
-    requires { from ≤ length text.now }
-    ensures { (result ≡ from + lead token_byte (drop from text.now)) × (result ≤ length text.now) }
+// The tokens that are left: their bytes, and the offset of these.
+#[derive(Drop)]
+pub struct Tokens<'a> {
+    pub bytes: &'a [u8],
+    pub at: u32,
+    ghost within: { at + length bytes.now ≤ text_most },
+}
+
+// How many of the first bytes are separators.
+// Kept beside token_bytes: one chain each, of a test and its opposite.
+pub fn separators(bytes: &[u8]) -> usize
+    ensures { result ≡ length (take_while separator bytes.now) }
 {
-    let mut at = from;
-    while at < text.len() {
-        if is_separator(text[at]) {
-            return at;
-        }
-        at += 1;
-    }
-    at
+    bytes.iter().take_while(|b| is_separator(**b)).count()
+}
+
+// How many of the first bytes are a token's.
+pub fn token_bytes(bytes: &[u8]) -> usize
+    ensures { result ≡ length (take_while token_byte bytes.now) }
+{
+    bytes.iter().take_while(|b| !is_separator(**b)).count()
 }
 
 // The place of the first token that is no comment, or the end.
 pub fn body(text: &[u8]) -> usize
     ensures { (record { at = result; bytes = drop result text.now } ≡ uncommented false text.now 0) × (result ≤ length text.now) }
 {
-    let mut at: usize = 0;
     let mut inside = false;
-    while at < text.len() {
-        let b = text[at];
-        let next = at + 1;
+    for (at, b) in text.iter().enumerate() {
         if inside {
-            if b == LINE_FEED {
-                inside = false;
-            }
-            at = next;
-        } else {
-            if is_separator(b) {
-                at = next;
-            } else {
-                if b == LETTER_C {
-                    inside = true;
-                    at = next;
-                } else {
-                    return at;
-                }
-            }
+            inside = *b != LINE_FEED;
+        } else if *b == LETTER_C {
+            inside = true;
+        } else if !is_separator(*b) {
+            return at;
         }
     }
-    at
+    text.len()
 }
 
 // Whether a token is this one letter.
+// Kept beside is_cnf: one comparison each, and callers say what they look for.
+#[tactic(auto, using(crate::proofs::TokenLaws::spelled_same))]
 pub fn is_letter(word: &[u8], letter: u8) -> bool
     ensures { result ≡ spelled (letter ∷ []) word.now }
 {
-    if word.len() == 1 {
-        return word[0] == letter;
-    }
-    false
+    word == [letter].as_slice()
 }
 
 // Whether a token is `cnf`.
+#[tactic(auto, using(crate::proofs::TokenLaws::spelled_same))]
 pub fn is_cnf(word: &[u8]) -> bool
     ensures { result ≡ spelled word_cnf word.now }
 {
-    if word.len() == 3 {
-        if word[0] == LETTER_C {
-            if word[1] == LETTER_N {
-                return word[2] == LETTER_F;
-            }
-        }
-    }
-    false
+    word == b"cnf".as_slice()
 }

@@ -2,11 +2,12 @@
 use mathlib.Core.Path.{◌≡◌, refl, sym, ap, ◌∙◌, subst}
 use mathlib.Core.Bool.{Bool, true, false}
 use mathlib.Core.List.{List, []}
-use mathlib.Core.Logic.{◌≢◌}
 use Prim.Native.Nat.{ℕ, ◌*◌, ◌≤◌, ◌<◌}
 use native.Mathlib.Omega.{arith}
 use lib.ListN.{length, get_or, length-map}
+use Rattle.std.specs.Prelude.{Ok, Err}
 use Rattle.rules.specs.declared.Reply.{Reply}
+use Rattle.rules.specs.declared.refusals.Refused.{Refused}
 use Rattle.rules.specs.definitions.Layout.{prefix_words, clause_words, line_words, map_words, set_words}
 use Rattle.rules.specs.definitions.Formula.{Formula, no_literal}
 use Rattle.theory.specs.laws.Formula.{proper_length, Worded}
@@ -16,23 +17,23 @@ use Rattle.rules.specs.definitions.File.{merge_proof, head_fault}
 use Rattle.rules.specs.definitions.Reading.{Reading, read}
 use Rattle.rules.specs.definitions.Reading.Reading.{unread, formula}
 use Rattle.theory.specs.laws.Reading.{read_proper}
-use Rattle.theory.specs.laws.Listed.{text_listed}
 use Rattle.rules.specs.definitions.Lines.{Row}
 use Rattle.rules.specs.definitions.Checking.{Passed, last_empty, Checked, base, lines_of, when_passed, proof_checked, checked_by, checked}
 use Rattle.rules.specs.definitions.Checking.Passed.{passed, stopped}
 use Rattle.rules.specs.definitions.Checking.Checked.{rejected, accepted}
 use Rattle.rules.specs.definitions.Tables.{bound_word, clause_row, holding, prefix_table, clause_table, prefix_after, clauses_after}
-use Rattle.theory.specs.laws.Tables.{rows_length, holding_length, holding_same, holding_twice, holding_again}
+use Rattle.theory.specs.laws.Tables.{rows_length, holding_same, holding_over, holding_twice, holding_again}
 use Rattle.theory.specs.laws.Lines.{numbered_in}
 use Rattle.sets.specs.Values.{length_clause_row}
-use Rattle.rules.specs.definitions.Services.{Lent, refusal, success, read_answer, check_answer}
+use Rattle.rules.specs.definitions.Services.{Lent, success, read_answer, check_answer}
 use Rattle.rules.specs.statements.Proper.{Proper}
-use Rattle.formula.specs.declared.reading.Outcome.{Outcome}
-use Rattle.formula.specs.Readings.{reply_of, outcome_reply, Left}
-use Rattle.checker.specs.declared.check.Findings.{Findings}
+use Rattle.formula.specs.declared.reading.Counts.{Counts}
+use Rattle.formula.specs.declared.tables.FormulaTables.{FormulaTables}
+use Rattle.formula.specs.Readings.{Told, Left}
+use Rattle.checker.specs.Tables.{Held, cleared}
 use Rattle.checker.specs.Runs.{Blank}
 use Rattle.checker.specs.Checks.{InTables, FilledTables, Checks}
-use Rattle.malintok.specs.Calls.{Long, with_lines, Answers, ProofIn}
+use Rattle.malintok.specs.Calls.{counts_of, counted, refused, Answers, ProofIn}
 
 none_fits : (n : ℕ) → length {A = ℕ} [] ≤ n
 none_fits n = omega arith
@@ -58,41 +59,42 @@ same_checked F proof = by (head_fault merge_proof F proof)
     by passes = same_passed F (lines_of base F proof)
     by (fails n v) = tt
 
-module _ (F : Formula) (proof : List ℕ) (T : Lent) (counts : Reply) (R : InTables F T.prefix counts.clauses T.clauses) (said : counts ≡ success F 0) (l n t : List ℕ) (f : Findings)
-    (J : Checks (proof_checked base F proof) T.lines T.nodes T.roots l n t f) where
+-- the five tables as one value
+abbrev pub five : List ℕ → List ℕ → Held → Lent
+five p c T = record { prefix = p; clauses = c; lines = T.lines; nodes = T.nodes; roots = T.roots }
+
+module _ (F : Formula) (proof : List ℕ) (t : FormulaTables) (lent T : Held) (counts : Counts) (R : InTables F t.prefix.now counts.clauses t.clauses.now) (said : counts ≡ counts_of F) where
   -- accepted: the tables hold the rows
-  pub proof_accepted : (r : Reply) → f.number ≡ 0 → r ≡ with_lines counts f.lines → Answers (check_answer (proof_checked base F proof)) T r T.prefix T.clauses l n t
-  proof_accepted r z g = by (proof_checked base F proof) (same_checked F proof) J
+  pub proof_accepted : (n : ℕ) → Checks (proof_checked base F proof) lent T (Ok n) → (r : Reply) → r ≡ counted counts n
+      → Answers (check_answer (proof_checked base F proof)) (five t.prefix.now t.clauses.now lent) r (five t.prefix.now t.clauses.now T)
+  proof_accepted n J r g = by (proof_checked base F proof) (same_checked F proof) J
     where
-      by : (C : Checked) → Same F C → Checks C T.lines T.nodes T.roots l n t f → Answers (check_answer C) T r T.prefix T.clauses l n t
-      by (accepted G rows) s j =
-          let m : f.lines ≡ length rows = ap (λ (x : Findings). x.lines) j.0 in
-          record {
-            reply = g ∙ ap (λ (c : Reply). with_lines c f.lines) said ∙ ap (λ (i : ℕ). success F i) m ∙ ap (λ (H : Formula). success H (length rows)) (sym s);
-            prefix_left = R.in_prefix ∙ ap (λ (H : Formula). holding prefix_words (prefix_table H rows) T.prefix) (sym s);
-            clauses_left = R.in_clauses ∙ ap (λ (H : Formula). holding clause_words (clause_table H rows) T.clauses) (sym s);
-            lines_left = j.1;
-            nodes_left = j.2;
-            roots_left = j.3;
-          }
-      by (rejected m at u) s j = absurd (omega (arith, ap (λ (x : Findings). x.number) j.0, j.1))
+      by : (C : Checked) → Same F C → Checks C lent T (Ok n) → Answers (check_answer C) (five t.prefix.now t.clauses.now lent) r (five t.prefix.now t.clauses.now T)
+      by (accepted G rows) s j = record {
+        reply = g ∙ ap (λ (c : Counts). counted c n) said ∙ ap (λ (i : ℕ). success F i) j.0 ∙ ap (λ (H : Formula). success H (length rows)) (sym s);
+        prefix_left = R.in_prefix ∙ ap (λ (H : Formula). holding prefix_words (prefix_table H rows) t.prefix.now) (sym s);
+        clauses_left = R.in_clauses ∙ ap (λ (H : Formula). holding clause_words (clause_table H rows) t.clauses.now) (sym s);
+        lines_left = ap (λ (H : Held). H.lines) j.1;
+        nodes_left = ap (λ (H : Held). H.nodes) j.1;
+        roots_left = ap (λ (H : Held). H.roots) j.1;
+      }
+      by (rejected m at u) s j = absurd j
 
   -- refused: all five tables are cleared
-  pub proof_rejected : (r : Reply) (p' c' l' n' t' : List ℕ) → f.number ≢ 0 → r ≡ refusal f.number f.place f.variable
-      → p' ≡ holding prefix_words [] T.prefix → c' ≡ holding clause_words [] T.clauses
-      → l' ≡ holding line_words [] l → n' ≡ holding map_words [] n → t' ≡ holding map_words [] t
-      → Answers (check_answer (proof_checked base F proof)) T r p' c' l' n' t'
-  proof_rejected r p' c' l' n' t' z g hp hc hl hn ht = by (proof_checked base F proof) J
+  pub proof_rejected : (k : Refused) → Checks (proof_checked base F proof) lent T (Err k) → (r : Reply) (p c : List ℕ) (T' : Held) → r ≡ refused k
+      → p ≡ holding prefix_words [] t.prefix.now → c ≡ holding clause_words [] t.clauses.now → T' ≡ cleared T
+      → Answers (check_answer (proof_checked base F proof)) (five t.prefix.now t.clauses.now lent) r (five p c T')
+  proof_rejected k J r p c T' g hp hc e = by (proof_checked base F proof) J
     where
-      by : (C : Checked) → Checks C T.lines T.nodes T.roots l n t f → Answers (check_answer C) T r p' c' l' n' t'
-      by (accepted G rows) j = absurd (z (ap (λ (x : Findings). x.number) j.0))
+      by : (C : Checked) → Checks C lent T (Err k) → Answers (check_answer C) (five t.prefix.now t.clauses.now lent) r (five p c T')
+      by (accepted G rows) j = absurd j
       by (rejected m i w) j = record {
-        reply = g ∙ ap (λ (x : Findings). refusal x.number x.place x.variable) j.0;
+        reply = g ∙ rw (j.0, j.1, j.2);
         prefix_left = hp;
         clauses_left = hc;
-        lines_left = hl ∙ holding_same line_words [] l T.lines j.2.lines_past;
-        nodes_left = hn ∙ holding_same map_words [] n T.nodes j.2.nodes_past;
-        roots_left = ht ∙ holding_same map_words [] t T.roots j.2.roots_past;
+        lines_left = ap (λ (H : Held). H.lines) e ∙ holding_same line_words [] T.lines lent.lines j.3.lines_past;
+        nodes_left = ap (λ (H : Held). H.nodes) e ∙ holding_same map_words [] T.nodes lent.nodes j.3.nodes_past;
+        roots_left = ap (λ (H : Held). H.roots) e ∙ holding_same map_words [] T.roots lent.roots j.3.roots_past;
       }
 
 -- ---- the text
@@ -107,114 +109,105 @@ prefix_fits : (F : Formula) → Proper F → length (prefix_table F []) ≤ pref
 unfolding prefix_words
 prefix_fits F P = omega (arith, length-map F.prefix bound_word, proper_length F P, P.variables)
 
-module _ (text proof : List ℕ) (T : Lent) (long : Long T) (o : Outcome) (counts : Reply) (p c l n t : List ℕ)
-    (L : Left text T.prefix T.clauses p c o) (said : counts ≡ reply_of o)
-    (hl : l ≡ holding line_words [] T.lines) (hn : n ≡ holding map_words [] T.nodes) (ht : t ≡ holding map_words [] T.roots) where
-  counts_are : counts ≡ (read_answer (read text)).reply
-  counts_are = said ∙ ap reply_of L.told ∙ outcome_reply (read text)
-
+module _ (text proof prefix clauses p c : List ℕ) (lent T : Held) (e : T ≡ cleared lent) where
   -- a refused text
-  pub text_refused : counts.number ≢ 0 → Answers (check_answer (checked text proof)) T counts p c l n t
+  pub text_refused : (k : Refused) → Left text prefix clauses p c (Err k) → (r : Reply) → r ≡ refused k → Answers (check_answer (checked text proof)) (five prefix clauses lent) r (five p c T)
   unfolding checked_by
-  text_refused z = by (read text) refl counts_are L.prefix_left L.clauses_left
+  text_refused k L r g = by (read text) L.told L.prefix_left L.clauses_left
     where
-      by : (R : Reading) → read text ≡ R → counts ≡ (read_answer R).reply → p ≡ prefix_after (read_answer R).leaves T.prefix → c ≡ clauses_after (read_answer R).leaves T.clauses
-          → Answers (check_answer (elim R [ unread k at ↦ rejected k at 0 | formula F ↦ proof_checked base F proof ])) T counts p c l n t
-      by (unread k at) e f hp hc = record { reply = f; prefix_left = hp; clauses_left = hc; lines_left = hl; nodes_left = hn; roots_left = ht }
-      by (formula F) e f hp hc = absurd (z (ap (λ (q : Reply). q.number) f))
+      by : (R : Reading) → Told R (Err k) → p ≡ prefix_after (read_answer R).leaves prefix → c ≡ clauses_after (read_answer R).leaves clauses
+          → Answers (check_answer (elim R [ unread k at ↦ rejected k at 0 | formula F ↦ proof_checked base F proof ])) (five prefix clauses lent) r (five p c T)
+      by (unread m at) t hp hc = record {
+        reply = g ∙ rw (t.0, t.1, t.2);
+        prefix_left = hp;
+        clauses_left = hc;
+        lines_left = ap (λ (H : Held). H.lines) e;
+        nodes_left = ap (λ (H : Held). H.nodes) e;
+        roots_left = ap (λ (H : Held). H.roots) e;
+      }
+      by (formula F) t hp hc = absurd t
 
+module _ (text prefix clauses p c : List ℕ) (n : Counts) (L : Left text prefix clauses p c (Ok n)) where
   -- a text that is read: its formula stands in its tables
-  pub text_read : counts.number ≡ 0 → (F : Formula) × (read text ≡ formula F) × (counts ≡ success F 0)
-  text_read z = by (read text) refl counts_are
+  pub text_read : (F : Formula) × (read text ≡ formula F) × (n ≡ counts_of F)
+  text_read = by (read text) refl L.told
     where
-      by : (R : Reading) → read text ≡ R → counts ≡ (read_answer R).reply → (F : Formula) × (read text ≡ formula F) × (counts ≡ success F 0)
-      by (unread k at) e f =
-          let k0 : k ≡ 0 = sym (ap (λ (q : Reply). q.number) f) ∙ z in
-          absurd (omega (arith, text_listed text k at e))
-      by (formula F) e f = (F, e, f)
+      by : (R : Reading) → read text ≡ R → Told R (Ok n) → (F : Formula) × (read text ≡ formula F) × (n ≡ counts_of F)
+      by (unread k at) d t = absurd t
+      by (formula F) d t = (F, d, t)
 
-  module _ (F : Formula) (e : read text ≡ formula F) where
+  module _ (F : Formula) (d : read text ≡ formula F) where
     proper : Proper F
-    proper = read_proper text F e
+    proper = read_proper text F d
 
-    in_prefix : p ≡ holding prefix_words (prefix_table F []) T.prefix
-    in_prefix = L.prefix_left ∙ ap (λ (R : Reading). prefix_after (read_answer R).leaves T.prefix) e
+    in_prefix : p ≡ holding prefix_words (prefix_table F []) prefix
+    in_prefix = L.prefix_left ∙ ap (λ (R : Reading). prefix_after (read_answer R).leaves prefix) d
 
-    in_clauses : c ≡ holding clause_words (clause_table F []) T.clauses
-    in_clauses = L.clauses_left ∙ ap (λ (R : Reading). clauses_after (read_answer R).leaves T.clauses) e
+    in_clauses : c ≡ holding clause_words (clause_table F []) clauses
+    in_clauses = L.clauses_left ∙ ap (λ (R : Reading). clauses_after (read_answer R).leaves clauses) d
 
     clauses_fit : length (clause_table F []) ≤ clause_words
     unfolding clause_words set_words
     clauses_fit = omega (arith, rows_length (2 * set_words) clause_row no_literal F.matrix (λ i h. length_clause_row _ (worded F proper i h)), proper.clauses)
 
-    long_prefix : prefix_words ≤ length p
-    long_prefix = omega (arith, long.prefix, ap length in_prefix ∙ holding_length prefix_words (prefix_table F []) T.prefix (prefix_fits F proper) long.prefix)
-
-    long_clauses : clause_words ≤ length c
-    long_clauses = omega (arith, long.clauses, ap length in_clauses ∙ holding_length clause_words (clause_table F []) T.clauses clauses_fit long.clauses)
-
-    -- the formula stands in its tables
-    pub formula_in : counts ≡ success F 0 → InTables F p counts.clauses c
-    formula_in s = record {
-      proper = proper;
-      count_is = ap (λ (q : Reply). q.clauses) s;
-      in_prefix = holding_again prefix_words (prefix_table F []) T.prefix p (prefix_fits F proper) in_prefix;
-      in_clauses = holding_again clause_words (clause_table F []) T.clauses c clauses_fit in_clauses;
-    }
-
-    pub formula_filled : counts ≡ success F 0 → FilledTables p counts.clauses c
-    formula_filled s = record { long_prefix = long_prefix; long_clauses = long_clauses; some = (F, formula_in s) }
-
     -- the proof's answer is the text's with the proof
-    pub text_and_proof : (r : Reply) (p' c' l' n' t' : List ℕ)
-        → Answers (check_answer (proof_checked base F proof)) (record { prefix = p; clauses = c; lines = l; nodes = n; roots = t }) r p' c' l' n' t'
-        → Answers (check_answer (checked text proof)) T r p' c' l' n' t'
+    text_and_proof : (proof : List ℕ) (lent T : Held) → T ≡ cleared lent → (r : Reply) (T' : Lent) → Answers (check_answer (proof_checked base F proof)) (five p c T) r T' → Answers (check_answer (checked text proof)) (five prefix clauses lent) r T'
     unfolding checked_by
-    text_and_proof r p' c' l' n' t' A = subst (λ (C : Checked). Answers (check_answer C) T r p' c' l' n' t') same (by (proof_checked base F proof) A)
+    text_and_proof proof lent T e r T' A = subst (λ (C : Checked). Answers (check_answer C) (five prefix clauses lent) r T') same (by (proof_checked base F proof) A)
       where
         same : proof_checked base F proof ≡ checked text proof
-        same = sym (ap (λ (R : Reading). staged R) e)
+        same = sym (ap (λ (R : Reading). staged R) d)
           where
             staged : Reading → Checked
             staged R = elim R [ unread k at ↦ rejected k at 0 | formula G ↦ proof_checked base G proof ]
 
-        by : (C : Checked) → Answers (check_answer C) (record { prefix = p; clauses = c; lines = l; nodes = n; roots = t }) r p' c' l' n' t' → Answers (check_answer C) T r p' c' l' n' t'
+        by : (C : Checked) → Answers (check_answer C) (five p c T) r T' → Answers (check_answer C) (five prefix clauses lent) r T'
         by (accepted G rows) B = record {
           reply = B.reply;
-          prefix_left = B.prefix_left ∙ holding_twice prefix_words _ (prefix_table F []) T.prefix p (prefix_fits F proper) in_prefix;
-          clauses_left = B.clauses_left ∙ holding_twice clause_words _ (clause_table F []) T.clauses c clauses_fit in_clauses;
-          lines_left = B.lines_left ∙ holding_twice line_words _ [] T.lines l (none_fits line_words) hl;
-          nodes_left = B.nodes_left ∙ holding_twice map_words _ [] T.nodes n (none_fits map_words) hn;
-          roots_left = B.roots_left ∙ holding_twice map_words _ [] T.roots t (none_fits map_words) ht;
+          prefix_left = B.prefix_left ∙ holding_twice prefix_words _ (prefix_table F []) prefix p (prefix_fits F proper) in_prefix;
+          clauses_left = B.clauses_left ∙ holding_twice clause_words _ (clause_table F []) clauses c clauses_fit in_clauses;
+          lines_left = B.lines_left ∙ holding_twice line_words _ [] lent.lines T.lines (none_fits line_words) (ap (λ (H : Held). H.lines) e);
+          nodes_left = B.nodes_left ∙ holding_twice map_words _ [] lent.nodes T.nodes (none_fits map_words) (ap (λ (H : Held). H.nodes) e);
+          roots_left = B.roots_left ∙ holding_twice map_words _ [] lent.roots T.roots (none_fits map_words) (ap (λ (H : Held). H.roots) e);
         }
         by (rejected k at u) B = record {
           reply = B.reply;
-          prefix_left = B.prefix_left ∙ holding_twice prefix_words [] (prefix_table F []) T.prefix p (prefix_fits F proper) in_prefix;
-          clauses_left = B.clauses_left ∙ holding_twice clause_words [] (clause_table F []) T.clauses c clauses_fit in_clauses;
-          lines_left = B.lines_left ∙ holding_twice line_words [] [] T.lines l (none_fits line_words) hl;
-          nodes_left = B.nodes_left ∙ holding_twice map_words [] [] T.nodes n (none_fits map_words) hn;
-          roots_left = B.roots_left ∙ holding_twice map_words [] [] T.roots t (none_fits map_words) ht;
+          prefix_left = B.prefix_left ∙ holding_twice prefix_words [] (prefix_table F []) prefix p (prefix_fits F proper) in_prefix;
+          clauses_left = B.clauses_left ∙ holding_twice clause_words [] (clause_table F []) clauses c clauses_fit in_clauses;
+          lines_left = B.lines_left ∙ holding_twice line_words [] [] lent.lines T.lines (none_fits line_words) (ap (λ (H : Held). H.lines) e);
+          nodes_left = B.nodes_left ∙ holding_twice map_words [] [] lent.nodes T.nodes (none_fits map_words) (ap (λ (H : Held). H.nodes) e);
+          roots_left = B.roots_left ∙ holding_twice map_words [] [] lent.roots T.roots (none_fits map_words) (ap (λ (H : Held). H.roots) e);
         }
 
-  -- the three tables are cleared
-  pub maps_blank : Blank l n t
-  maps_blank = record {
-    long_lines = omega (arith, long.lines, ap length hl ∙ holding_length line_words [] T.lines (none_fits line_words) long.lines);
-    long_nodes = omega (arith, long.nodes, ap length hn ∙ holding_length map_words [] T.nodes (none_fits map_words) long.nodes);
-    long_roots = omega (arith, long.roots, ap length ht ∙ holding_length map_words [] T.roots (none_fits map_words) long.roots);
-    in_lines = holding_again line_words [] T.lines l (none_fits line_words) hl;
-    in_nodes = holding_again map_words [] T.nodes n (none_fits map_words) hn;
-    in_roots = holding_again map_words [] T.roots t (none_fits map_words) ht;
-  }
+-- cleared tables hold no row
+blank_again : (lent T : Held) → T ≡ cleared lent → Blank T
+blank_again lent T e =
+    let twice : cleared (cleared lent) ≡ cleared lent
+    = rw (holding_over line_words [] lent.lines [] (none_fits line_words), holding_over map_words [] lent.nodes [] (none_fits map_words), holding_over map_words [] lent.roots [] (none_fits map_words)) refl in
+    e ∙ sym (ap cleared e ∙ twice)
+
+-- a text that is read, and its tables
+module _ (text proof prefix clauses : List ℕ) (t : FormulaTables) (lent T : Held) (n : Counts) (L : Left text prefix clauses t.prefix.now t.clauses.now (Ok n)) (e : T ≡ cleared lent) where
+  abbrev the_text : (F : Formula) × (read text ≡ formula F) × (n ≡ counts_of F)
+  the_text = text_read text prefix clauses t.prefix.now t.clauses.now n L
+
+  -- the formula stands in its tables
+  held_text : InTables the_text.0 t.prefix.now n.clauses t.clauses.now
+  held_text =
+      let (F, d, s) = the_text in
+      record {
+        proper = read_proper text F d;
+        count_is = ap (λ (q : Counts). q.clauses) s;
+        in_prefix = holding_again prefix_words (prefix_table F []) prefix t.prefix.now (prefix_fits F (read_proper text F d)) (in_prefix text prefix clauses t.prefix.now t.clauses.now n L F d);
+        in_clauses = holding_again clause_words (clause_table F []) clauses t.clauses.now (clauses_fit text prefix clauses t.prefix.now t.clauses.now n L F d) (in_clauses text prefix clauses t.prefix.now t.clauses.now n L F d);
+      }
 
   -- what the proof's check asks
-  pub standing : counts.number ≡ 0 → Blank l n t × FilledTables p counts.clauses c
-  standing z = let f = text_read z in (maps_blank, formula_filled f.0 f.1 f.2)
+  pub proof_ready : Blank T × FilledTables t.prefix.now n.clauses t.clauses.now
+  proof_ready = (blank_again lent T e, record { long_prefix = t.long_prefix; long_clauses = t.long_clauses; some = (the_text.0, held_text) })
 
   -- and what it answers, of the text with the proof
-  pub proof_answers : counts.number ≡ 0 → (r : Reply) (p' c' l' n' t' : List ℕ)
-      → ((F : Formula) → InTables F p counts.clauses c → ProofIn F proof (record { prefix = p; clauses = c; lines = l; nodes = n; roots = t }) counts r p' c' l' n' t')
-      → Answers (check_answer (checked text proof)) T r p' c' l' n' t'
-  proof_answers z r p' c' l' n' t' h =
-      let f = text_read z in
-      text_and_proof f.0 f.1 r p' c' l' n' t' (h f.0 (formula_in f.0 f.1 f.2) f.2)
+  pub proof_answers : (r : Reply) (T' : Lent) → ((F : Formula) → InTables F t.prefix.now n.clauses t.clauses.now → ProofIn F proof n (five t.prefix.now t.clauses.now T) r T') → Answers (check_answer (checked text proof)) (five prefix clauses lent) r T'
+  proof_answers r T' h =
+      let (F, d, s) = the_text in
+      text_and_proof text prefix clauses t.prefix.now t.clauses.now n L F d proof lent T e r T' (h F held_text s)

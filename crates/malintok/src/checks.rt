@@ -1,97 +1,77 @@
 // Checking in tables that are long enough: cleared, read, checked, and cleared again where refused.
-ghost use Rattle.std.specs.Prelude.{◌≡◌, [], ◌≤◌, length};
+ghost use Rattle.std.specs.Prelude.{◌≤◌, length};
+ghost use Rattle.rules.specs.definitions.Checking.{base, proof_checked};
 ghost use Rattle.rules.specs.definitions.Formula.{Formula};
 ghost use Rattle.rules.specs.definitions.Limits.{text_most};
-ghost use Rattle.rules.specs.definitions.Layout.{prefix_words, clause_words, line_words, map_words};
-ghost use Rattle.rules.specs.definitions.Tables.{holding};
+ghost use Rattle.formula.specs.Tables.{SameFormulaTables};
+ghost use Rattle.checker.specs.Tables.{words_of, SameProofTables};
 ghost use Rattle.checker.specs.Runs.{Blank};
-ghost use Rattle.checker.specs.Checks.{InTables, FilledTables};
-ghost use Rattle.malintok.specs.Calls.{Long, CheckedIn, ProofIn};
+ghost use Rattle.checker.specs.Checks.{InTables, FilledTables, Checks};
+ghost use Rattle.malintok.specs.Calls.{lent_of, CheckedIn, ProofIn};
 
-use crate::replies::{accepted, read_reply, rejected};
+use crate::replies::{accepted, rejected};
 use checker::check;
-use formula::reading::read_in;
-use formula::tables::{clear, clear_wide};
+use checker::tables::ProofTables;
+use formula::reading::{Counts, read_in};
+use formula::tables::FormulaTables;
 use rules::Reply;
-use rules::limits::{CLAUSE_WORDS, LINE_WORDS, MAP_WORDS, PREFIX_WORDS};
+use rules::refusals::Refused;
 
-// The line, node and root tables, cleared.
-fn clear_maps(lines: &mut [u64], nodes: &mut [u32], roots: &mut [u32])
-    requires { (line_words ≤ length lines.old) × (map_words ≤ length nodes.old) × (map_words ≤ length roots.old) }
-    ensures { (lines.new ≡ holding line_words [] lines.old) × (nodes.new ≡ holding map_words [] nodes.old) × (roots.new ≡ holding map_words [] roots.old) }
+// The proof over a formula that stands in its tables: the line count, or the first refusal.
+fn check_filled(
+    proof: &[u8],
+    formula: &FormulaTables,
+    count: u32,
+    tables: &mut ProofTables,
+) -> Result<u32, Refused>
+    requires { Blank (words_of tables.old) × FilledTables formula.now.prefix.now count formula.now.clauses.now }
+    ensures checks { (F : Formula) → InTables F formula.now.prefix.now count formula.now.clauses.now → Checks (proof_checked base F proof.now) (words_of tables.old) (words_of tables.new) result }
+    ensures same { SameProofTables tables.old tables.new }
 {
-    clear_wide(&mut lines[..], LINE_WORDS);
-    clear(&mut nodes[..], MAP_WORDS);
-    clear(&mut roots[..], MAP_WORDS);
-}
-
-// The prefix and clause tables, cleared.
-fn clear_formula(prefix: &mut [u32], clauses: &mut [u64])
-    requires { (prefix_words ≤ length prefix.old) × (clause_words ≤ length clauses.old) }
-    ensures { (prefix.new ≡ holding prefix_words [] prefix.old) × (clauses.new ≡ holding clause_words [] clauses.old) }
-{
-    clear(&mut prefix[..], PREFIX_WORDS);
-    clear_wide(&mut clauses[..], CLAUSE_WORDS);
+    check::check_proof(
+        proof,
+        &formula.prefix[..],
+        count,
+        &formula.clauses[..],
+        tables,
+    )
 }
 
 // The proof, after its formula was read into the first two tables and the others were cleared.
 fn check_proof(
     proof: &[u8],
-    prefix: &mut [u32],
-    clauses: &mut [u64],
-    lines: &mut [u64],
-    nodes: &mut [u32],
-    roots: &mut [u32],
-    counts: Reply,
+    formula: &mut FormulaTables,
+    tables: &mut ProofTables,
+    counts: Counts,
 ) -> Reply
-    requires { Blank lines.old nodes.old roots.old × FilledTables prefix.old counts.clauses clauses.old }
-    ensures { (F : Formula) → InTables F prefix.old counts.clauses clauses.old → ProofIn F proof.now (record { prefix = prefix.old; clauses = clauses.old; lines = lines.old; nodes = nodes.old; roots = roots.old }) counts result prefix.new clauses.new lines.new nodes.new roots.new }
+    requires { Blank (words_of tables.old) × FilledTables formula.old.prefix.now counts.clauses formula.old.clauses.now }
+    ensures answers { (F : Formula) → InTables F formula.old.prefix.now counts.clauses formula.old.clauses.now → ProofIn F proof.now counts (lent_of formula.old tables.old) result (lent_of formula.new tables.new) }
+    ensures same { SameFormulaTables formula.old formula.new × SameProofTables tables.old tables.new }
 {
-    let f = check::check_proof(
-        proof,
-        &prefix[..],
-        counts.clauses,
-        &clauses[..],
-        &mut lines[..],
-        &mut nodes[..],
-        &mut roots[..],
-    );
-    let number = f.number;
-    if number != 0 {
-        clear_formula(&mut prefix[..], &mut clauses[..]);
-        clear_maps(&mut lines[..], &mut nodes[..], &mut roots[..]);
-        return rejected(number, f.place, f.variable);
+    match check_filled(proof, formula, counts.clauses, tables) {
+        Ok(lines) => accepted(counts, lines),
+        Err(e) => {
+            formula.clear();
+            tables.clear();
+            rejected(e)
+        }
     }
-    accepted(counts, f.lines)
 }
 
 // The text with the proof.
 pub fn check_in(
     text: &[u8],
     proof: &[u8],
-    prefix: &mut [u32],
-    clauses: &mut [u64],
-    lines: &mut [u64],
-    nodes: &mut [u32],
-    roots: &mut [u32],
+    formula: &mut FormulaTables,
+    tables: &mut ProofTables,
 ) -> Reply
-    requires { (length text.now ≤ text_most) × Long (record { prefix = prefix.old; clauses = clauses.old; lines = lines.old; nodes = nodes.old; roots = roots.old }) }
-    ensures { CheckedIn text.now proof.now (record { prefix = prefix.old; clauses = clauses.old; lines = lines.old; nodes = nodes.old; roots = roots.old }) result prefix.new clauses.new lines.new nodes.new roots.new }
+    requires { length text.now ≤ text_most }
+    ensures answers { CheckedIn text.now proof.now (lent_of formula.old tables.old) result (lent_of formula.new tables.new) }
+    ensures same { SameFormulaTables formula.old formula.new × SameProofTables tables.old tables.new }
 {
-    clear_maps(&mut lines[..], &mut nodes[..], &mut roots[..]);
-    let o = read_in(text, &mut prefix[..], &mut clauses[..]);
-    let counts = read_reply(o);
-    let number = counts.number;
-    if number != 0 {
-        return counts;
+    tables.clear();
+    match read_in(text, formula) {
+        Ok(counts) => check_proof(proof, formula, tables, counts),
+        Err(e) => rejected(e),
     }
-    check_proof(
-        proof,
-        &mut prefix[..],
-        &mut clauses[..],
-        &mut lines[..],
-        &mut nodes[..],
-        &mut roots[..],
-        counts,
-    )
 }

@@ -1,68 +1,44 @@
 // Replies: 01's number and values for each answer.
 ghost use Rattle.std.specs.Prelude.{◌≡◌};
-ghost use Rattle.rules.specs.definitions.Services.{refusal};
 ghost use Rattle.formula.specs.Readings.{reply_of};
-ghost use Rattle.malintok.specs.Calls.{with_lines};
+ghost use Rattle.malintok.specs.Calls.{counted, refused};
 
-use formula::reading::Outcome;
+use formula::reading::Counts;
 use rules::Reply;
-
-// The reply that says what a text reads to.
-pub fn read_reply(outcome: Outcome) -> Reply
-    ensures { result ≡ reply_of outcome }
-{
-    match outcome {
-        Outcome::Refused(number, place) => Reply {
-            number,
-            place,
-            variable: 0,
-            variables: 0,
-            clauses: 0,
-            universals: 0,
-            lines: 0,
-        },
-        Outcome::Formula {
-            variables,
-            clauses,
-            universals,
-        } => Reply {
-            number: 0,
-            place: 0,
-            variable: 0,
-            variables,
-            clauses,
-            universals,
-            lines: 0,
-        },
-    }
-}
-
-// The refusal with this number, place and variable.
-pub fn rejected(number: u32, place: u32, variable: u32) -> Reply
-    ensures { result ≡ refusal number place variable }
-{
-    Reply {
-        number,
-        place,
-        variable,
-        variables: 0,
-        clauses: 0,
-        universals: 0,
-        lines: 0,
-    }
-}
+use rules::refusals::Refused;
 
 // The counts of a formula that was read, and a line count.
-pub fn accepted(counts: Reply, lines: u32) -> Reply
-    ensures { result ≡ with_lines counts lines }
+// Kept: functions, here and below, which take parts over by name: a From in rules would need the definitions of replies there.
+pub fn accepted(counts: Counts, lines: u32) -> Reply
+    ensures { result ≡ counted counts lines }
 {
     Reply {
-        number: 0,
-        place: 0,
-        variable: 0,
         variables: counts.variables,
         clauses: counts.clauses,
         universals: counts.universals,
         lines,
+        ..Reply::default()
+    }
+}
+
+// The refusal's number, place and variable.
+pub fn rejected(e: Refused) -> Reply
+    ensures { result ≡ refused e }
+{
+    Reply {
+        number: e.refusal.number(),
+        place: e.place,
+        variable: e.variable,
+        ..Reply::default()
+    }
+}
+
+// The reply that says what a text reads to.
+pub fn read_reply(read: Result<Counts, Refused>) -> Reply
+    ensures { result ≡ reply_of read }
+{
+    match read {
+        Ok(counts) => accepted(counts, 0),
+        Err(e) => rejected(e),
     }
 }

@@ -1,4 +1,5 @@
 // The services for C: each export calls the service of its name and promises what that promises.
+// Kept beside the services, with their slices: C needs exports in a crate of their own.
 #![tactic(auto)]
 
 ghost use Rattle.malintok.specs.Calls.{ReadCall, CheckCall, PlayCall};

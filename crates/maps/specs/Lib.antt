@@ -1,2 +1,3 @@
+pub mod Columns
 pub mod Playing
 pub mod Comparing

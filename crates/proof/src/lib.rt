@@ -1,38 +1,25 @@
 // The proof file: its head, and a record of 8 bytes as a line.
 #![tactic(auto)]
 
-ghost use Rattle.std.specs.Prelude.{◌≡◌, not, ℕ, ◌+◌, ◌<◌, length};
+ghost use Rattle.std.specs.Prelude.{◌≡◌, ℕ, ◌+◌, ◌<◌, not, length};
 ghost use Rattle.rules.specs.definitions.Layout.{record_bytes};
+ghost use Rattle.rules.specs.definitions.Refusals.{numbered};
 ghost use Rattle.rules.specs.definitions.Formula.{Formula};
 ghost use Rattle.rules.specs.definitions.File.{pair_at, bare_tail, decoded};
 ghost use Rattle.proof.specs.Head.{unmarked, head_of};
 
 use rules::limits::{
-    AXIOM_KIND, AXIOM_TAIL, BAD_KIND, BAD_LENGTH, BAD_LINE_COUNT, BAD_MARK, HEAD_BYTES,
-    LINE_PLACES, MARK_M, MARK_P, MARK_R, RECORD_BYTES, RESOLUTION_KIND, VERSION,
+    AXIOM_KIND, HEAD_BYTES, LINE_PLACES, MARK, RECORD_BYTES, RESOLUTION_KIND, VERSION,
 };
-use rules::{Decoded, Line, Resolution};
-
-// The head as examined: the number of the refusal, or the line count.
-#[derive(Clone, Copy)]
-pub enum Head {
-    Fault(u32),
-    Lines(u32),
-}
-
-// A byte as a two-byte number.
-fn wide(x: u8) -> u16
-    ensures { (result ≡ x) × (result < 256) }
-{
-    x as u16
-}
+use rules::refusals::Refusal;
+use rules::{Line, Resolution};
 
 // The two-byte number at a place, low byte first.
 pub fn pair(bytes: &[u8], at: usize) -> u16
     requires { at + 1 < length bytes.now }
     ensures { result ≡ pair_at bytes.now at }
 {
-    wide(bytes[at]) + wide(bytes[at + 1]) * 256
+    u16::from_le_bytes([bytes[at], bytes[at + 1]])
 }
 
 // Bytes 3 to 7 of a record are zero.
@@ -40,45 +27,26 @@ fn bare(rec: &[u8]) -> bool
     requires { length rec.now ≡ record_bytes }
     ensures { result ≡ bare_tail rec.now }
 {
-    if rec[3] != 0 {
-        return false;
-    }
-    if rec[4] != 0 {
-        return false;
-    }
-    if rec[5] != 0 {
-        return false;
-    }
-    if rec[6] != 0 {
-        return false;
-    }
-    if rec[7] != 0 {
-        return false;
-    }
-    true
+    rec[3..].iter().all(|b| *b == 0)
 }
 
-// A record as a line, or the refusal's number.
-pub fn decode(rec: &[u8]) -> Decoded
+// A record as a line, or why it is none.
+// Kept: a slice of 8 bytes, since an array would ask more of a caller.
+pub fn decode(rec: &[u8]) -> Result<Line, Refusal>
     requires { length rec.now ≡ record_bytes }
-    ensures { result ≡ decoded rec.now }
+    ensures { numbered result ≡ decoded rec.now }
 {
-    let kind = rec[0];
-    if kind == AXIOM_KIND {
-        if bare(rec) {
-            return Decoded::Line(Line::Axiom(pair(rec, 1)));
-        }
-        return Decoded::Refused(AXIOM_TAIL);
-    }
-    if kind == RESOLUTION_KIND {
-        return Decoded::Line(Line::Resolve(Resolution {
+    match rec[0] {
+        AXIOM_KIND if bare(rec) => Ok(Line::Axiom(pair(rec, 1))),
+        AXIOM_KIND => Err(Refusal::AxiomTail),
+        RESOLUTION_KIND => Ok(Line::Resolve(Resolution {
             a: pair(rec, 1),
             b: pair(rec, 3),
             pivot: rec[5],
             merge: pair(rec, 6),
-        }));
+        })),
+        _ => Err(Refusal::BadKind),
     }
-    Decoded::Refused(BAD_KIND)
 }
 
 // The file has 7 bytes, the mark MRP and version 1.
@@ -88,37 +56,22 @@ fn marked(proof: &[u8]) -> bool
     if proof.len() < HEAD_BYTES {
         return false;
     }
-    if proof[0] != MARK_M {
-        return false;
-    }
-    if proof[1] != MARK_R {
-        return false;
-    }
-    if proof[2] != MARK_P {
-        return false;
-    }
-    if pair(proof, 3) != VERSION {
-        return false;
-    }
-    true
+    proof.starts_with(&MARK) && pair(proof, 3) == VERSION
 }
 
-// The head's line count, or the number of its first fault; the same for every formula.
-pub fn read_head(proof: &[u8]) -> Head
-    ensures { (F : Formula) → result ≡ head_of F proof.now }
+// The head's line count, or its first fault; the same for every formula.
+pub fn read_head(proof: &[u8]) -> Result<u32, Refusal>
+    ensures { (F : Formula) → numbered result ≡ head_of F proof.now }
 {
     if !marked(proof) {
-        return Head::Fault(BAD_MARK);
+        return Err(Refusal::BadMark);
     }
     let n = pair(proof, 5) as usize;
     if proof.len() != HEAD_BYTES + RECORD_BYTES * n {
-        return Head::Fault(BAD_LENGTH);
+        return Err(Refusal::BadLength);
     }
-    if n < 1 {
-        return Head::Fault(BAD_LINE_COUNT);
+    if n < 1 || LINE_PLACES < n {
+        return Err(Refusal::BadLineCount);
     }
-    if LINE_PLACES < n {
-        return Head::Fault(BAD_LINE_COUNT);
-    }
-    Head::Lines(n as u32)
+    Ok(n as u32)
 }

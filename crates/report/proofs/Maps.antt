@@ -4,18 +4,23 @@ use mathlib.Core.List.{List, [], ◌∷◌, ◌++◌, append_assoc, append-nil}
 use Prim.Native.Nat.{ℕ, suc, ◌+◌, ◌*◌, ◌≤◌, ◌<◌}
 use native.Mathlib.Numerals.{add-one}
 use native.Mathlib.Omega.{arith}
-use lib.ListN.{length, get_or, take, drop, drop_of_length-le}
-use lib.Seq.{drop-cons, get_or-take, length-take-le}
-use borrow.Author.Tests.{lt-ltb, le-ltb}
+use lib.ListN.{length, get_or, drop, drop_of_length-le}
+use lib.Seq.{drop-cons}
+use lib.Dec.{ltb}
+use mathlib.Core.Bool.{Bool, true}
+use mathlib.Core.Logic.{by_cases}
+use native.Mathlib.Decide.{dec_lt}
+use Rattle.std.specs.List.{filter, enumerate_from}
+use Rattle.std.proofs.Common.{cond}
+use Rattle.std.proofs.lemmas.List.Elements.{filter_passes, All-get_or}
+use Rattle.std.proofs.lemmas.List.FromFn.{length-enumerate_from, get_or-enumerate_from}
+use borrow.Author.Tests.{lt-ltb, le-ltb, ltb-true}
+use Rattle.std.proofs.lemmas.Grind.{get_or_default_zero}
 use Rattle.rules.specs.definitions.Layout.{universal_mark}
+use Rattle.report.specs.declared.text.Out.{Out}
 use Rattle.report.specs.Written.{Appended}
 use Rattle.report.specs.Tabled.{word_map, word_maps, InTable, Ready}
-use Rattle.report.proofs.Laws.{nothing, then, retext}
-
--- the words from k on
-words_next : (prefix : List ℕ) (k : ℕ) → 64 ≤ length prefix → k < 64 → drop k (take 64 prefix) ≡ get_or prefix k 0 ∷ drop (suc k) (take 64 prefix)
-words_next prefix k h l =
-    drop-cons (take 64 prefix) k 0 (omega (arith, length-take-le 64 prefix h)) ∙ ap (λ (w : ℕ). w ∷ drop (suc k) (take 64 prefix)) (get_or-take 64 prefix k 0 l)
+use Rattle.report.proofs.Laws.{nothing, then, retext, wider}
 
 -- a universal's word, and another's
 pub maps_universal : (nodes roots : List ℕ) (n w : ℕ) (ws : List ℕ) (j : ℕ) → universal_mark < w
@@ -35,58 +40,99 @@ pub ready_other : (roots : List ℕ) (n w : ℕ) (ws : List ℕ) (j : ℕ) → w
 unfolding Ready
 ready_other roots n w ws j h = rw (le-ltb universal_mark w h, Ready)
 
-module _ (prefix nodes roots : List ℕ) (n : ℕ) (before : List ℕ) (at : ℕ) where
-  -- k words are done, with j universals among them
-  pub record Mapped (after : List ℕ) (next j k : ℕ) : Type 0 where
-    pub done : List ℕ
-    pub put : Appended before after at next done
-    pub whole : done ++ word_maps nodes roots n (drop k (take 64 prefix)) j ≡ word_maps nodes roots n (take 64 prefix) 0
-    pub ready : Ready roots n (drop k (take 64 prefix)) j
-    pub room : next ≤ at + 58399 * j
-    pub places : k ≤ 64
-    pub few : j ≤ 16
+-- the universals among the words
+abbrev pub universals : List ℕ → List ℕ
+universals ws = filter (λ w. ltb universal_mark w) ws
 
-  pub mapped_begin : Ready roots n (take 64 prefix) 0 → Mapped before at 0 0
-  mapped_begin R = record { done = []; put = nothing before at; whole = refl; ready = R; room = omega arith; places = omega arith; few = omega arith }
+universals_more : (w : ℕ) (ws : List ℕ) → universal_mark < w → universals (w ∷ ws) ≡ w ∷ universals ws
+universals_more w ws h = ap (λ (b : Bool). cond b (w ∷ universals ws) (universals ws)) (lt-ltb universal_mark w h)
 
-  module _ (long : 64 ≤ length prefix) (after : List ℕ) (next j k : ℕ) (P : Mapped after next j k) (more : k < 64) where
+universals_other : (w : ℕ) (ws : List ℕ) → w ≤ universal_mark → universals (w ∷ ws) ≡ universals ws
+universals_other w ws h = ap (λ (b : Bool). cond b (w ∷ universals ws) (universals ws)) (le-ltb universal_mark w h)
+
+-- the universals alone name the same maps, and ask the same
+maps_of : (nodes roots : List ℕ) (n : ℕ) (ws : List ℕ) (j : ℕ) → word_maps nodes roots n (universals ws) j ≡ word_maps nodes roots n ws j
+maps_of nodes roots n [] j = refl
+maps_of nodes roots n (w ∷ ws) j =
+    by_cases (dec_lt universal_mark w)
+    (λ h.
+    ap (λ (l : List ℕ). word_maps nodes roots n l j) (universals_more w ws h)
+    ∙ maps_universal nodes roots n w (universals ws) j h
+    ∙ ap (λ (x : List ℕ). word_map nodes roots n j w ++ x) (maps_of nodes roots n ws (suc j))
+    ∙ sym (maps_universal nodes roots n w ws j h))
+    (λ h.
+    let o : w ≤ universal_mark = omega arith in
+    ap (λ (l : List ℕ). word_maps nodes roots n l j) (universals_other w ws o) ∙ maps_of nodes roots n ws j ∙ sym (maps_other nodes roots n w ws j o))
+
+ready_of : (roots : List ℕ) (n : ℕ) (ws : List ℕ) (j : ℕ) → Ready roots n ws j ≡ Ready roots n (universals ws) j
+ready_of roots n [] j = refl
+ready_of roots n (w ∷ ws) j =
+    by_cases (dec_lt universal_mark w)
+    (λ h.
+    ready_universal roots n w ws j h
+    ∙ ap (λ (X : Type 0). InTable roots n j × X) (ready_of roots n ws (suc j))
+    ∙ sym (ready_universal roots n w (universals ws) j h)
+    ∙ ap (λ (l : List ℕ). Ready roots n l j) (sym (universals_more w ws h)))
+    (λ h.
+    let o : w ≤ universal_mark = omega arith in
+    ready_other roots n w ws j o ∙ ready_of roots n ws j ∙ ap (λ (l : List ℕ). Ready roots n l j) (sym (universals_other w ws o)))
+
+-- an item of the loop is a universal with its offset
+pub item : (ws : List ℕ) (i j w : ℕ) → i < length (enumerate_from 0 (universals ws)) → (j, w) ≡ get_or (enumerate_from 0 (universals ws)) i (j, w)
+    → (i < length (universals ws)) × ((j ≡ i) × ((w ≡ get_or (universals ws) i 0) × (universal_mark < w)))
+item ws i j w h e =
+    let l : i < length (universals ws) = omega (arith, length-enumerate_from 0 (universals ws)) in
+    let p : (j, w) ≡ (0 + i, get_or (universals ws) i w) = e ∙ get_or-enumerate_from 0 (universals ws) i (j, w) l in
+    let v : w ≡ get_or (universals ws) i 0 = ap (λ (q : ℕ × ℕ). q.1) p ∙ get_or_default_zero (universals ws) i w l in
+    let u = All-get_or (λ x. ltb universal_mark x ≡ true) (universals ws) i 0 l (filter_passes (λ w. ltb universal_mark w) ws) in
+    (l, (omega (arith, ap (λ (q : ℕ × ℕ). q.0) p), (v, subst (λ (x : ℕ). universal_mark < x) (sym v) (ltb-true universal_mark (get_or (universals ws) i 0) u))))
+
+-- of the universals among the words, k are done
+pub record Mapped (words nodes roots : List ℕ) (n : ℕ) (before after : Out) (k : ℕ) : Type 0 where
+  pub done : List ℕ
+  pub put : Appended (58399 * k) before after done
+  pub whole : done ++ word_maps nodes roots n (drop k (universals words)) k ≡ word_maps nodes roots n words 0
+  pub ready : Ready roots n (drop k (universals words)) k
+  pub few : k ≤ 16
+
+module _ {words nodes roots : List ℕ} {n : ℕ} {before : Out} where
+  pub mapped_begin : Ready roots n words 0 → Mapped words nodes roots n before before 0
+  mapped_begin R = record {
+    done = [];
+    put = nothing before;
+    whole = maps_of nodes roots n words 0;
+    ready = subst (λ (X : Type 0). X) (ready_of roots n words 0) R;
+    few = omega arith;
+  }
+
+  module _ {after : Out} {k : ℕ} (P : Mapped words nodes roots n before after k) (w : ℕ) (more : k < length (universals words)) (is : w ≡ get_or (universals words) k 0)
+      (h : universal_mark < w) where
+    -- the universals from k on
+    next : drop k (universals words) ≡ w ∷ drop (suc k) (universals words)
+    next = drop-cons (universals words) k 0 more ∙ ap (λ (x : ℕ). x ∷ drop (suc k) (universals words)) (sym is)
+
     -- the universal that comes has its offset and root in range
-    pub mapped_ready : universal_mark < get_or prefix k 0 → InTable roots n j × Ready roots n (drop (suc k) (take 64 prefix)) (suc j)
-    mapped_ready h =
-        subst (λ (X : Type 0). X) (ready_universal roots n (get_or prefix k 0) (drop (suc k) (take 64 prefix)) j h) (subst (λ (l : List ℕ). Ready roots n l j) (words_next prefix k long more) P.ready)
+    pub mapped_ready : InTable roots n k × Ready roots n (drop (suc k) (universals words)) (suc k)
+    mapped_ready =
+        subst (λ (X : Type 0). X) (ready_universal roots n w (drop (suc k) (universals words)) k h) (subst (λ (l : List ℕ). Ready roots n l k) next P.ready)
 
     -- its map is put
-    pub mapped_put : (later : List ℕ) (further : ℕ) → universal_mark < get_or prefix k 0 → Appended after later next further (word_map nodes roots n j (get_or prefix k 0)) → further ≤ next + 58399
-        → Mapped later further (j + 1) (k + 1)
-    mapped_put later further h A l = simp add-one (record {
-      done = P.done ++ word_map nodes roots n j (get_or prefix k 0);
-      put = then P.put A;
+    pub mapped_put : {later : Out} → Appended 58399 after later (word_map nodes roots n k w) → Mapped words nodes roots n before later (k + 1)
+    mapped_put A = simp add-one (record {
+      done = P.done ++ word_map nodes roots n k w;
+      put = wider (omega arith) (then P.put A);
       whole =
-          append_assoc P.done (word_map nodes roots n j (get_or prefix k 0)) (word_maps nodes roots n (drop (suc k) (take 64 prefix)) (suc j))
-          ∙ ap (λ (x : List ℕ). P.done ++ x) (sym (ap (λ (l : List ℕ). word_maps nodes roots n l j) (words_next prefix k long more) ∙ maps_universal nodes roots n (get_or prefix k 0) (drop (suc k) (take 64 prefix)) j h))
+          append_assoc P.done (word_map nodes roots n k w) (word_maps nodes roots n (drop (suc k) (universals words)) (suc k))
+          ∙ ap (λ (x : List ℕ). P.done ++ x)
+          (sym (ap (λ (l : List ℕ). word_maps nodes roots n l k) next ∙ maps_universal nodes roots n w (drop (suc k) (universals words)) k h))
           ∙ P.whole;
-      ready = (mapped_ready h).1;
-      room = omega (arith, P.room);
-      places = omega arith;
-      few = omega (arith, (mapped_ready h).0.0);
+      ready = mapped_ready.1;
+      few = omega (arith, mapped_ready.0.0);
     })
 
-    -- another word is passed over
-    pub mapped_over : get_or prefix k 0 ≤ universal_mark → Mapped after next j (k + 1)
-    mapped_over h = rw add-one (record {
-      done = P.done;
-      put = P.put;
-      whole =
-          ap (λ (x : List ℕ). P.done ++ x) (sym (ap (λ (l : List ℕ). word_maps nodes roots n l j) (words_next prefix k long more) ∙ maps_other nodes roots n (get_or prefix k 0) (drop (suc k) (take 64 prefix)) j h))
-          ∙ P.whole;
-      ready = subst (λ (X : Type 0). X) (ready_other roots n (get_or prefix k 0) (drop (suc k) (take 64 prefix)) j h) (subst (λ (l : List ℕ). Ready roots n l j) (words_next prefix k long more) P.ready);
-      room = P.room;
-      places = omega arith;
-      few = P.few;
-    })
-
-  pub mapped_end : 64 ≤ length prefix → (after : List ℕ) (next j k : ℕ) → Mapped after next j k → 64 ≤ k → Appended before after at next (word_maps nodes roots n (take 64 prefix) 0)
+  pub mapped_end : {after : Out} {k : ℕ} → Mapped words nodes roots n before after k → length (universals words) ≤ k
+      → Appended 934384 before after (word_maps nodes roots n words 0)
   unfolding word_maps
-  mapped_end long after next j k P h =
-      let z : drop k (take 64 prefix) ≡ [] = drop_of_length-le (take 64 prefix) {i = k} (omega (arith, length-take-le 64 prefix long)) in
-      retext (sym (ap (λ (l : List ℕ). P.done ++ word_maps nodes roots n l j) z ∙ append-nil P.done) ∙ P.whole) P.put
+  mapped_end {after} {k} P h =
+      let z : drop k (universals words) ≡ [] = drop_of_length-le (universals words) {i = k} h in
+      wider (omega (arith, P.few)) (retext (sym (ap (λ (l : List ℕ). P.done ++ word_maps nodes roots n l k) z ∙ append-nil P.done) ∙ P.whole) P.put)

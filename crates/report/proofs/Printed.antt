@@ -5,7 +5,7 @@ use mathlib.Core.Bool.{Bool, true, false}
 use Prim.Native.Nat.{ℕ, ◌≤◌}
 use native.Mathlib.Omega.{arith}
 use lib.Dec.{ltb}
-use lib.ListN.{length, length-take}
+use lib.ListN.{length, take, drop}
 use borrow.Author.Tests.{eq-eqb, ne_eqb, le-ltb}
 use Rattle.rules.specs.declared.Reply.{Reply}
 use Rattle.rules.specs.definitions.Limits.{text_most}
@@ -17,6 +17,7 @@ use Rattle.rules.specs.definitions.Services.{Lent, Answer, refused_early, check_
 use Rattle.theory.specs.laws.Listed.{check_listed}
 use Rattle.rules.specs.definitions.Report.{refused_line, accepted_text, report, printed}
 use Rattle.malintok.specs.Calls.{CheckCall}
+use Rattle.report.specs.declared.text.Out.{Out}
 use Rattle.report.specs.Written.{Appended, accepted_line}
 use Rattle.report.specs.Tabled.{reply_text, accepted_tables, Printable}
 use Rattle.report.specs.Calls.{Room, PrintCall}
@@ -72,21 +73,22 @@ module _ (text proof lp ln lr prefix nodes roots : List ℕ) (prefix_long : 64 �
       subst (λ (a : Answer). Prints lp ln lr prefix nodes roots a (printed text proof)) (sym same) (by_length (ltb text_most (length text)))
 
 -- ---- a call of checking, and what is printed of it
-module _ (text proof : List ℕ) (T : Lent) (out : List ℕ) (room : Room T out) (r : Reply) (p c l n t : List ℕ) (call : CheckCall text proof T r p c l n t) where
-  not_short : short_tables T ≡ false
-  not_short =
-      rw (
-        le-ltb (length T.prefix) prefix_words room.prefix,
-        le-ltb (length T.clauses) clause_words room.clauses,
-        le-ltb (length T.lines) line_words room.lines,
-        le-ltb (length T.nodes) map_words room.nodes,
-        le-ltb (length T.roots) map_words room.roots,
-      )
+-- no table is short
+not_short : {T : Lent} {out : List ℕ} → Room T out → short_tables T ≡ false
+not_short {T} room =
+    rw (
+      le-ltb (length T.prefix) prefix_words room.prefix,
+      le-ltb (length T.clauses) clause_words room.clauses,
+      le-ltb (length T.lines) line_words room.lines,
+      le-ltb (length T.nodes) map_words room.nodes,
+      le-ltb (length T.roots) map_words room.roots,
+    )
 
+module _ (text proof : List ℕ) {T : Lent} {out : List ℕ} {r : Reply} {p c l n t : List ℕ} (room : Room T out) (call : CheckCall text proof T r p c l n t) where
   prints : ((checking text proof T).reply.number ≡ 0 → Printable p n t (checking text proof T).reply.lines) × (reply_text (checking text proof T).reply p n t ≡ printed text proof)
   unfolding prefix_words map_words
   prints =
-      printed_reply text proof T.prefix T.nodes T.roots p n t (omega (arith, room.prefix)) (omega (arith, room.nodes)) (omega (arith, room.roots)) T not_short
+      printed_reply text proof T.prefix T.nodes T.roots p n t (omega (arith, room.prefix)) (omega (arith, room.nodes)) (omega (arith, room.roots)) T (not_short room)
       call.prefix_left call.nodes_left call.roots_left
 
   -- where the reply is 0 the tables can be printed
@@ -94,14 +96,15 @@ module _ (text proof : List ℕ) (T : Lent) (out : List ℕ) (room : Room T out)
   call_printable = subst (λ (q : Reply). q.number ≡ 0 → Printable p n t q.lines) (sym call.reply) prints.0
 
   -- what is put for the reply is what 01 says
-  pub call_printed : (out' : List ℕ) (k : ℕ) → Appended out out' 0 k (reply_text r p n t) → PrintCall text proof T out k out' p c l n t
-  call_printed out' k A = record {
-    said = A.written ∙ ap (λ (q : Reply). reply_text q p n t) call.reply ∙ prints.1;
-    past = A.rest;
-    within = omega (arith, A.next_is, ap length A.written, length-take k out');
+  pub call_printed : {most : ℕ} {o o' : Out} {out' : List ℕ} → o.bytes.now ≡ out → o.at ≡ 0 → Appended most o o' (reply_text r p n t) → out' ≡ o'.bytes.now
+      → PrintCall text proof T out o'.at out' p c l n t
+  call_printed {o = o} {o' = o'} e z A i = rw i (record {
+    said = A.written ∙ ap (λ (i : ℕ). take i o.bytes.now ++ reply_text r p n t) z ∙ ap (λ (q : Reply). reply_text q p n t) call.reply ∙ prints.1;
+    past = A.rest ∙ ap (drop o'.at) e;
+    within = omega (arith, o'.within);
     prefix_left = call.prefix_left;
     clauses_left = call.clauses_left;
     lines_left = call.lines_left;
     nodes_left = call.nodes_left;
     roots_left = call.roots_left;
-  }
+  })

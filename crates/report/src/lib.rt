@@ -8,10 +8,15 @@ mod reply;
 mod table;
 mod text;
 
-ghost use Rattle.std.specs.Prelude.{◌≡◌, length};
+ghost use Rattle.std.specs.Prelude.{◌≡◌, ◌≤◌, length};
+ghost use Rattle.rules.specs.definitions.Report.{printed};
 ghost use Rattle.report.specs.Calls.{report_most, Room, PrintCall};
 
+use rules::limits::{CLAUSE_WORDS, LINE_WORDS, MAP_WORDS, PREFIX_WORDS};
+use text::Out;
+
 // Checks the text with the proof over the lent tables, and puts what 01 prints for them at the start of out: how many bytes.
+// Kept: the slices and the buffer, which its clauses Room and PrintCall speak of.
 pub fn print(
     text: &[u8],
     proof: &[u8],
@@ -34,7 +39,35 @@ pub fn print(
         &mut nodes[..],
         &mut roots[..],
     );
-    reply::put_reply(reply, &prefix[..], &nodes[..], &roots[..], out)
+    let mut report = Out {
+        bytes: &mut out[..],
+        at: 0,
+    };
+    report.put_reply(reply, &prefix[..], &nodes[..], &roots[..]);
+    report.at
+}
+
+// What 01 prints for the text and the proof, put at the start of the room: they are checked over tables of this function's own.
+pub fn of<'a>(text: &[u8], proof: &[u8], room: &'a mut [u8]) -> &'a [u8]
+    requires { report_most ≤ length room.old }
+    ensures { result.now ≡ printed text.now proof.now }
+{
+    let mut prefix = [0u32; PREFIX_WORDS];
+    let mut clauses = [0u64; CLAUSE_WORDS];
+    let mut lines = [0u64; LINE_WORDS];
+    let mut nodes = [0u32; MAP_WORDS];
+    let mut roots = [0u32; MAP_WORDS];
+    let n = print(
+        text,
+        proof,
+        &mut prefix,
+        &mut clauses,
+        &mut lines,
+        &mut nodes,
+        &mut roots,
+        &mut room[..],
+    );
+    &room[..n]
 }
 
 // Room for every report.

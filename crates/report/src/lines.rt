@@ -1,42 +1,43 @@
 // The lines that are no node's: the verdict, and a map's head.
-ghost use Rattle.std.specs.Prelude.{◌+◌, ◌≤◌, length};
-ghost use Rattle.rules.specs.definitions.Report.{refused_line};
-ghost use Rattle.report.specs.Written.{Appended, accepted_line, map_head};
+use crate::text::Out;
 
-use crate::text::{put, put_decimal};
+impl Out<'_> {
+    ghost use Rattle.rules.specs.definitions.Report.{refused_line};
+    ghost use Rattle.report.specs.Written.{RoomFor, Appended, accepted_line, map_head};
 
-// A refusal: its number, place and variable.
-pub fn put_refused(out: &mut [u8], at: usize, number: u32, place: u32, variable: u32) -> usize
-    requires { at + 41 ≤ length out.old }
-    ensures { Appended out.old out.new at result (refused_line number place variable) }
-{
-    let p = put(&mut out[..], at, b"refused ");
-    let q = put_decimal(&mut out[..], p, number);
-    let r = put(&mut out[..], q, b" ");
-    let s = put_decimal(&mut out[..], r, place);
-    let t = put(&mut out[..], s, b" ");
-    let u = put_decimal(&mut out[..], t, variable);
-    put(&mut out[..], u, b"\n")
-}
+    // A refusal: its number, place and variable.
+    pub fn put_refused(&mut self, number: u32, place: u32, variable: u32)
+        requires { RoomFor 41 self.old }
+        ensures { Appended 41 self.old self.new (refused_line number place variable) }
+    {
+        self.put(b"refused ");
+        self.put_decimal(number);
+        self.put(b" ");
+        self.put_decimal(place);
+        self.put(b" ");
+        self.put_decimal(variable);
+        self.put(b"\n");
+    }
 
-// The first line of what is accepted: how many lines were checked.
-pub fn put_accepted(out: &mut [u8], at: usize, lines: u32) -> usize
-    requires { at + 20 ≤ length out.old }
-    ensures { (Appended out.old out.new at result (accepted_line lines)) × (result ≤ at + 20) }
-{
-    let p = put(&mut out[..], at, b"accepted ");
-    let q = put_decimal(&mut out[..], p, lines);
-    put(&mut out[..], q, b"\n")
-}
+    // The first line of what is accepted: how many lines were checked.
+    pub fn put_accepted(&mut self, lines: u32)
+        requires { RoomFor 20 self.old }
+        ensures { Appended 20 self.old self.new (accepted_line lines) }
+    {
+        self.put(b"accepted ");
+        self.put_decimal(lines);
+        self.put(b"\n");
+    }
 
-// A map's first line: its variable and its root.
-pub fn put_map_head(out: &mut [u8], at: usize, variable: u32, root: u32) -> usize
-    requires { at + 31 ≤ length out.old }
-    ensures { (Appended out.old out.new at result (map_head variable root)) × (result ≤ at + 31) }
-{
-    let p = put(&mut out[..], at, b"map ");
-    let q = put_decimal(&mut out[..], p, variable);
-    let r = put(&mut out[..], q, b" root ");
-    let s = put_decimal(&mut out[..], r, root);
-    put(&mut out[..], s, b"\n")
+    // A map's first line: its variable and its root.
+    pub fn put_map_head(&mut self, variable: u32, root: u32)
+        requires { RoomFor 31 self.old }
+        ensures { Appended 31 self.old self.new (map_head variable root) }
+    {
+        self.put(b"map ");
+        self.put_decimal(variable);
+        self.put(b" root ");
+        self.put_decimal(root);
+        self.put(b"\n");
+    }
 }

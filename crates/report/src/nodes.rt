@@ -1,54 +1,57 @@
 // A map's nodes, line by line.
-ghost use Rattle.std.specs.Prelude.{◌+◌, ◌≤◌, length};
-ghost use Rattle.rules.specs.definitions.Report.{value_name, node_text};
-ghost use Rattle.report.specs.Written.{Appended, numbered};
-
-use crate::text::{put, put_decimal};
+use crate::text::Out;
 use rules::{Node, Value};
 
-// A leaf's value, after a space.
-fn put_value(out: &mut [u8], at: usize, value: Value) -> usize
-    requires { at + 5 ≤ length out.old }
-    ensures { (Appended out.old out.new at result (value_name value)) × (result ≤ at + 5) }
-{
-    match value {
-        Value::Star => put(out, at, b" star"),
-        Value::One => put(out, at, b" one"),
-        Value::Zero => put(out, at, b" zero"),
+impl Out<'_> {
+    ghost use Rattle.rules.specs.definitions.Report.{value_name, node_text};
+    ghost use Rattle.report.specs.Written.{RoomFor, Appended, numbered};
+
+    // A leaf's value, after a space.
+    #[tactic(auto, using(crate::proofs::Laws::wider), unfolding(rules::specs::definitions::Bytes::text))]
+    fn put_value(&mut self, value: Value)
+        requires { RoomFor 5 self.old }
+        ensures { Appended 5 self.old self.new (value_name value) }
+    {
+        match value {
+            Value::Star => self.put(b" star"),
+            Value::One => self.put(b" one"),
+            Value::Zero => self.put(b" zero"),
+        }
     }
-}
 
-// A branch: its variable, its end for 1 and its end for 0.
-fn put_branch(out: &mut [u8], at: usize, x: u32, a: u32, b: u32) -> usize
-    requires { at + 46 ≤ length out.old }
-    ensures { (Appended out.old out.new at result (node_text (Node.Branch x a b))) × (result ≤ at + 46) }
-{
-    let p = put(&mut out[..], at, b" if ");
-    let q = put_decimal(&mut out[..], p, x);
-    let r = put(&mut out[..], q, b" then ");
-    let s = put_decimal(&mut out[..], r, b);
-    let t = put(&mut out[..], s, b" else ");
-    put_decimal(&mut out[..], t, a)
-}
-
-// What stands behind a node's number.
-fn put_node(out: &mut [u8], at: usize, node: Node) -> usize
-    requires { at + 46 ≤ length out.old }
-    ensures { (Appended out.old out.new at result (node_text node)) × (result ≤ at + 46) }
-{
-    match node {
-        Node::None => at,
-        Node::Leaf(value) => put_value(out, at, value),
-        Node::Branch { x, a, b } => put_branch(out, at, x, a, b),
+    // A branch: its variable, its end for 1 and its end for 0.
+    fn put_branch(&mut self, x: u32, a: u32, b: u32)
+        requires { RoomFor 46 self.old }
+        ensures { Appended 46 self.old self.new (node_text (Node.Branch x a b)) }
+    {
+        self.put(b" if ");
+        self.put_decimal(x);
+        self.put(b" then ");
+        self.put_decimal(b);
+        self.put(b" else ");
+        self.put_decimal(a);
     }
-}
 
-// A node's line.
-pub fn put_node_line(out: &mut [u8], at: usize, number: u32, node: Node) -> usize
-    requires { at + 57 ≤ length out.old }
-    ensures { (Appended out.old out.new at result (numbered number node)) × (result ≤ at + 57) }
-{
-    let p = put_decimal(&mut out[..], at, number);
-    let q = put_node(&mut out[..], p, node);
-    put(&mut out[..], q, b"\n")
+    // What stands behind a node's number.
+    #[tactic(auto, using(crate::proofs::Laws::nothing, crate::proofs::Laws::wider))]
+    fn put_node(&mut self, node: Node)
+        requires { RoomFor 46 self.old }
+        ensures { Appended 46 self.old self.new (node_text node) }
+    {
+        match node {
+            Node::None => {}
+            Node::Leaf(value) => self.put_value(value),
+            Node::Branch { x, a, b } => self.put_branch(x, a, b),
+        }
+    }
+
+    // A node's line.
+    pub fn put_node_line(&mut self, number: u32, node: Node)
+        requires { RoomFor 57 self.old }
+        ensures { Appended 57 self.old self.new (numbered number node) }
+    {
+        self.put_decimal(number);
+        self.put_node(node);
+        self.put(b"\n");
+    }
 }

@@ -1,41 +1,38 @@
-// Bytes and numbers put behind what a buffer holds already.
-ghost use Rattle.std.specs.Prelude.{◌≡◌, ◌+◌, ◌-◌, ◌%◌, ◌≤◌, ◌<◌, length};
-ghost use Rattle.rules.specs.definitions.Report.{decimal};
-ghost use Rattle.report.specs.Written.{Appended};
+// Bytes and numbers put behind what a lent buffer holds already.
+ghost use Rattle.std.specs.Prelude.{◌≤◌, length};
 
-// The bytes, put behind the first `at` of out; the place past them.
-pub fn put(out: &mut [u8], at: usize, bytes: &[u8]) -> usize
-    requires { at + length bytes.now ≤ length out.old }
-    ensures { Appended out.old out.new at result bytes.now }
-{
-    let mut i = 0;
-    while i < bytes.len() {
-        out[at + i] = bytes[i];
-        i += 1;
-    }
-    at + bytes.len()
+// A lent buffer, of which the first `at` bytes are put so far.
+// Kept: printing by hand, since `print` puts its report into a buffer that is lent (PrintCall), with no heap.
+#[derive(Drop)]
+pub struct Out<'a> {
+    pub bytes: &'a mut [u8],
+    pub at: usize,
+    ghost within: { at ≤ length bytes.now },
 }
 
-// A number's last digit.
-fn last_digit(n: u32) -> u8
-    ensures { result ≡ 48 + n % 10 }
-{
-    48 + (n % 10) as u8
-}
+impl Out<'_> {
+    ghost use Rattle.std.specs.Prelude.{length};
+    ghost use Rattle.rules.specs.definitions.Report.{decimal};
+    ghost use Rattle.report.specs.Written.{RoomFor, Appended};
 
-// The number in decimal, put behind the first `at` bytes of out.
-pub fn put_decimal(out: &mut [u8], at: usize, n: u32) -> usize
-    requires { at + 10 ≤ length out.old }
-    ensures { (Appended out.old out.new at result (decimal n)) × (result ≤ at + 10) }
-{
-    let mut digits = [0u8; 10];
-    let mut from = 9;
-    let mut left = n;
-    digits[9] = last_digit(left);
-    while 10 <= left {
-        left = left / 10;
-        from -= 1;
-        digits[from] = last_digit(left);
+    // Puts the bytes.
+    #[tactic(auto, using(std::proofs::lemmas::Slice::overwrites))]
+    pub fn put(&mut self, bytes: &[u8])
+        requires { RoomFor (length bytes.now) self.old }
+        ensures { Appended (length bytes.now) self.old self.new bytes.now }
+    {
+        self.bytes[self.at..self.at + bytes.len()].copy_from_slice(bytes);
+        self.at += bytes.len();
     }
-    put(out, at, &digits[from..])
+
+    // Puts the number in decimal: the digits of its tenth, then its last.
+    pub fn put_decimal(&mut self, n: u32)
+        requires { RoomFor 10 self.old }
+        ensures { Appended 10 self.old self.new (decimal n) }
+    {
+        if 10 <= n {
+            self.put_decimal(n / 10);
+        }
+        self.put(&[b'0' + (n % 10) as u8]);
+    }
 }

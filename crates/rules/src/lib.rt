@@ -1,19 +1,21 @@
 // The types of documents 01 and 004 that definitions and code share, and 01's numbers. The definitions are in
-// specs/; there is no code here.
+// specs/; the code here is what a refusal says of itself.
 #![tactic(auto)]
 
 pub mod limits;
+pub mod refusals;
 
-// What a map plays: no value, 1 or 0.
-#[derive(Clone, Copy)]
+// What a map plays: no value, 1 or 0. Its number is its word in the tables.
+#[derive(Clone, Copy, Debug, PartialEq, Eq)]
 pub enum Value {
-    Star,
-    One,
-    Zero,
+    Star = 1,
+    One = 2,
+    Zero = 3,
 }
 
 // A map's node: none, a leaf, or a branch (x, a, b): at x = 0 go to a, else to b.
-#[derive(Clone, Copy)]
+// Kept: three cases, which an Option of two would take apart in two matches.
+#[derive(Clone, Copy, Debug, PartialEq, Eq)]
 pub enum Node {
     None,
     Leaf(Value),
@@ -21,7 +23,7 @@ pub enum Node {
 }
 
 // A resolution's two parents, its pivot and its merge set, universal j at bit j - 1.
-#[derive(Clone, Copy)]
+#[derive(Clone, Copy, Debug, PartialEq, Eq)]
 pub struct Resolution {
     pub a: u16,
     pub b: u16,
@@ -30,22 +32,16 @@ pub struct Resolution {
 }
 
 // A proof's line: an axiom with its clause number, or a resolution.
-#[derive(Clone, Copy)]
+#[derive(Clone, Copy, Debug, PartialEq, Eq)]
 pub enum Line {
     Axiom(u16),
     Resolve(Resolution),
 }
 
-// A record as decoded: a line, or the refusal's number.
-#[derive(Clone, Copy)]
-pub enum Decoded {
-    Line(Line),
-    Refused(u32),
-}
-
 // The answer of reading and of checking: number 0 for success.
+// Kept: a number beside the values, since C reads it so (include/malintok.h).
 #[repr(C)]
-#[derive(Clone, Copy)]
+#[derive(Clone, Copy, Debug, Default, PartialEq, Eq)]
 pub struct Reply {
     pub number: u32,
     pub place: u32,
@@ -57,8 +53,9 @@ pub struct Reply {
 }
 
 // The answer of playing: number 0 for success; value 1 star, 2 one, 3 zero, 0 with a refusal.
+// Kept: a number beside the value, since C reads it so (include/malintok.h).
 #[repr(C)]
-#[derive(Clone, Copy)]
+#[derive(Clone, Copy, Debug, Default, PartialEq, Eq)]
 pub struct Played {
     pub number: u32,
     pub value: u32,

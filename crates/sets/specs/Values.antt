@@ -1,5 +1,5 @@
--- What a set and a clause by value stand for: the sets and clauses of the rules.
-use Rattle.std.specs.Prelude.{◌≡◌, refl, List, [], ◌∷◌, ◌++◌, ℕ, ◌+◌, ◌*◌, length, take, drop}
+-- What a set and a clause by value stand for: the sets and clauses of the rules; and the literal of a signed number.
+use Rattle.std.specs.Prelude.{◌≡◌, refl, true, false, List, [], ◌∷◌, ◌++◌, ℕ, suc, ℤ, pos, negsuc, ◌+◌, ◌*◌, length, take, drop}
 use Rattle.std.proofs.Common.{◌∙◌, arith, length-append, take_at, drop_at}
 use Rattle.rules.specs.definitions.Layout.{set_words}
 use Rattle.rules.specs.definitions.Sets.{Set as Variables, without, join}
@@ -7,11 +7,17 @@ use Rattle.rules.specs.definitions.Formula.{Clause as Literals}
 use Rattle.theory.specs.laws.Formula.{Worded}
 use Rattle.rules.specs.definitions.Tables.{clause_row}
 use Rattle.sets.specs.declared.Set.{Set}
+use Rattle.sets.specs.declared.Literal.{Literal}
 use Rattle.sets.specs.declared.Clause.{Clause}
 
 -- the variables of a set
 unfoldable pub set_of : Set → Variables
 set_of s = s.word ∷ []
+
+-- a literal is a signed number: minus for negated
+abbrev pub literal_of : ℤ → Literal
+literal_of (pos n) = record { variable = n; negated = false }
+literal_of (negsuc n) = record { variable = suc n; negated = true }
 
 -- the literals of a clause
 unfoldable pub clause_of : Clause → Literals

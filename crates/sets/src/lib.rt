@@ -1,4 +1,4 @@
-// Sets of variables and clauses, by value. How many words a set has is known to the methods of Set alone.
+// Sets of variables, literals and clauses, by value. How many words a set has is known to the methods of Set alone.
 #![tactic(auto)]
 
 ghost use Rattle.std.specs.Prelude.{◌≡◌, ◌+◌, ◌*◌, ◌≤◌, length, take, drop};
@@ -7,12 +7,12 @@ ghost use Rattle.rules.specs.definitions.Layout.{set_words};
 ghost use Rattle.rules.specs.definitions.Sets.{none, has, with, without, join, only, empty, meet};
 ghost use Rattle.rules.specs.definitions.Formula.{no_literal, with_literal, has_opposite, kept_by, resolvent, two_faced, empty_clause};
 ghost use Rattle.rules.specs.definitions.Tables.{clause_row};
-ghost use Rattle.sets.specs.Values.{put_in, clause_in, set_of, clause_of, less_plain, less_negated, joined};
+ghost use Rattle.sets.specs.Values.{put_in, clause_in, set_of, literal_of, clause_of, less_plain, less_negated, joined};
 
 use rules::limits::VARIABLES_MOST;
 
 // A set of variables: variable v is bit v - 1.
-#[derive(Clone, Copy)]
+#[derive(Clone, Copy, Debug, PartialEq, Eq)]
 pub struct Set {
     pub word: u64,
 }
@@ -29,16 +29,14 @@ impl Set {
     pub fn has(self, v: u32) -> bool
         ensures { result ≡ has (set_of self) v }
     {
-        if v == 0 {
-            return false;
-        }
-        if VARIABLES_MOST < v {
+        if v < 1 || VARIABLES_MOST < v {
             return false;
         }
         (self.word >> (v - 1)) & 1 == 1
     }
 
     // The set and v.
+    // Kept, here and below: a variable's range as a clause, since a type for it would ask more of a caller.
     pub fn with(self, v: u32) -> Set
         requires { (1 ≤ v) × (v ≤ variables_most) }
         ensures { set_of result ≡ with (set_of self) v }
@@ -114,8 +112,26 @@ impl Set {
     }
 }
 
+// A literal: a variable, and whether it stands negated.
+#[derive(Clone, Copy, Debug, PartialEq, Eq)]
+pub struct Literal {
+    pub variable: u32,
+    pub negated: bool,
+}
+
+impl From<i32> for Literal {
+    ghost from_gives = { λ n l. l ≡ literal_of n };
+
+    fn from(n: i32) -> Literal {
+        Literal {
+            variable: n.unsigned_abs(),
+            negated: n < 0,
+        }
+    }
+}
+
 // A clause: the variables that stand in it plain, and those that stand in it negated.
-#[derive(Clone, Copy)]
+#[derive(Clone, Copy, Debug, PartialEq, Eq)]
 pub struct Clause {
     pub plain: Set,
     pub negated: Set,
@@ -133,43 +149,43 @@ impl Clause {
     }
 
     // The clause and one literal more.
-    pub fn with(self, v: u32, negated: bool) -> Clause
-        requires { (1 ≤ v) × (v ≤ variables_most) }
-        ensures { clause_of result ≡ with_literal (clause_of self) (record { variable = v; negated = negated }) }
+    pub fn with(self, l: Literal) -> Clause
+        requires { (1 ≤ l.variable) × (l.variable ≤ variables_most) }
+        ensures { clause_of result ≡ with_literal (clause_of self) (record { variable = l.variable; negated = l.negated }) }
     {
-        let plain = self.plain;
-        let negative = self.negated;
-        if negated {
-            return Clause {
-                plain,
-                negated: negative.with(v),
-            };
-        }
-        Clause {
-            plain: plain.with(v),
-            negated: negative,
+        if l.negated {
+            Clause {
+                negated: self.negated.with(l.variable),
+                ..self
+            }
+        } else {
+            Clause {
+                plain: self.plain.with(l.variable),
+                ..self
+            }
         }
     }
 
     // Whether the literal's opposite stands in the clause.
-    pub fn has_opposite(self, v: u32, negated: bool) -> bool
-        ensures { result ≡ has_opposite (clause_of self) (record { variable = v; negated = negated }) }
+    pub fn has_opposite(self, l: Literal) -> bool
+        ensures { result ≡ has_opposite (clause_of self) (record { variable = l.variable; negated = l.negated }) }
     {
-        if negated {
-            return self.plain.has(v);
+        if l.negated {
+            self.plain.has(l.variable)
+        } else {
+            self.negated.has(l.variable)
         }
-        self.negated.has(v)
     }
 
     // The clause without the literal x.
+    // Kept beside without_negated: one expression each, over another field, and both named in docs/PROMISES.md.
     pub fn without_plain(self, x: u32) -> Clause
         requires { (1 ≤ x) × (x ≤ variables_most) }
         ensures { clause_of result ≡ less_plain (clause_of self) x }
     {
-        let negated = self.negated;
         Clause {
             plain: self.plain.without(x),
-            negated,
+            ..self
         }
     }
 
@@ -178,10 +194,9 @@ impl Clause {
         requires { (1 ≤ x) × (x ≤ variables_most) }
         ensures { clause_of result ≡ less_negated (clause_of self) x }
     {
-        let plain = self.plain;
         Clause {
-            plain,
             negated: self.negated.without(x),
+            ..self
         }
     }
 
@@ -251,9 +266,6 @@ impl Clause {
     pub fn is_empty(self) -> bool
         ensures { result ≡ empty_clause (clause_of self) }
     {
-        if self.plain.is_empty() {
-            return self.negated.is_empty();
-        }
-        false
+        self.plain.is_empty() && self.negated.is_empty()
     }
 }

@@ -1,16 +1,16 @@
--- `proof::decode` meets its contract: each return by the law of FileLaws for the record's first byte.
-use mathlib.Core.Path.{sym, ◌∙◌}
+-- `proof::decode` meets its contract: each return by the law of theory's File for the record's first byte.
+use Rattle.std.proofs.Common.{sym, ◌∙◌, arith}
 use Rattle.theory.specs.laws.File.{decoded_axiom, decoded_tail, decoded_resolution, decoded_kind}
 use Rattle.proof.proofs.decode.Goals as goal
 
-pub returns-then-bare : goal.returns-then-bare
-returns-then-bare c = rw c.pair.ensures (sym (decoded_axiom _ c.if-kind-eq-AXIOM_KIND.true (sym c.bare.ensures ∙ c.if-bare.true)))
+pub returns-in-1 : goal.returns-in-1
+returns-in-1 c = rw c.pair.ensures (sym (decoded_axiom _ c.in-1.is (sym c.bare.ensures ∙ c.if-bare.true)))
 
-pub returns-then-kind-eq-AXIOM_KIND : goal.returns-then-kind-eq-AXIOM_KIND
-returns-then-kind-eq-AXIOM_KIND c = sym (decoded_tail _ c.if-kind-eq-AXIOM_KIND.true (sym c.bare.ensures ∙ c.if-bare.false))
+pub returns-in-1-2 : goal.returns-in-1-2
+returns-in-1-2 c = sym (decoded_tail _ c.in-1.is (sym c.bare.ensures ∙ c.if-bare.false))
 
-pub returns-then-kind-eq-RESOLUTION_KIND : goal.returns-then-kind-eq-RESOLUTION_KIND
-returns-then-kind-eq-RESOLUTION_KIND c = rw (c.pair-then-kind-eq-RESOLUTION_KIND-3.ensures, c.pair-then-kind-eq-RESOLUTION_KIND-2.ensures, c.pair-then-kind-eq-RESOLUTION_KIND.ensures) (sym (decoded_resolution _ c.if-kind-eq-AXIOM_KIND.false c.if-kind-eq-RESOLUTION_KIND.true))
+pub returns-in-2 : goal.returns-in-2
+returns-in-2 c = rw (c.pair-in-2-3.ensures, c.pair-in-2-2.ensures, c.pair-in-2.ensures) (sym (decoded_resolution _ (λ p. omega arith) c.in-2.is))
 
-pub returns : goal.returns
-returns c = sym (decoded_kind _ c.if-kind-eq-AXIOM_KIND.false c.if-kind-eq-RESOLUTION_KIND.false)
+pub returns-in_default : goal.returns-in_default
+returns-in_default c = sym (decoded_kind _ (λ p. omega arith) (λ p. omega arith))

@@ -1,7 +1,8 @@
--- `proof::pair` meets its contract: low byte and high byte as they are widened.
+-- `proof::pair` meets its contract: low byte first.
+use Rattle.std.proofs.Common.{arith}
 use Rattle.rules.specs.definitions.File.{pair_at}
 use Rattle.proof.proofs.pair.Goals as goal
 
 pub returns : goal.returns
 unfolding pair_at
-returns c = simp (c.wide-2.ensures.0, c.wide.ensures.0)
+returns c = omega (arith, c.from_le_bytes.ensures)

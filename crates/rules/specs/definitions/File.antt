@@ -1,10 +1,8 @@
 -- Proof file (01): head, records, lines; and the other way, the file of given lines.
-use Rattle.std.specs.Prelude.{Bool, true, false, not, ◌&&◌, ◌||◌, List, [], ◌∷◌, ◌++◌, ℕ, zero, suc, ◌+◌, ◌*◌, ◌/◌, ◌%◌, eqb, ltb, length, get_or, take, drop}
+use Rattle.std.specs.Prelude.{Ok, Err, Result, Bool, true, false, not, ◌&&◌, ◌||◌, List, [], ◌∷◌, ◌++◌, ℕ, zero, suc, ◌+◌, ◌*◌, ◌/◌, ◌%◌, eqb, ltb, length, get_or, take, drop}
 use Rattle.rules.specs.declared.Resolution.{Resolution}
 use Rattle.rules.specs.declared.Line.{Line}
 use Rattle.rules.specs.declared.Line.TheVariants as L
-use Rattle.rules.specs.declared.Decoded.{Decoded}
-use Rattle.rules.specs.declared.Decoded.TheVariants as D
 use Rattle.rules.specs.definitions.Layout.{head_bytes, record_bytes}
 use Rattle.rules.specs.definitions.Limits.{lines_most}
 use Rattle.rules.specs.definitions.Refusals.{bad_mark, bad_length, bad_line_count, bad_kind, axiom_tail}
@@ -28,11 +26,15 @@ bare_tail s = eqb (byte_at s 3) 0 && (eqb (byte_at s 4) 0 && (eqb (byte_at s 5) 
 abbrev pub resolution_at : List ℕ → Resolution
 resolution_at s = record { a = pair_at s 1; b = pair_at s 3; pivot = byte_at s 5; merge = pair_at s 6 }
 
+-- a line, or the refusal's number
+abbrev pub Decoded : Type 0
+Decoded = Result Line ℕ
+
 unfoldable pub decoded : List ℕ → Decoded
 decoded s =
     elim (eqb (byte_at s 0) 1) [
-      | true ↦ elim (bare_tail s) [ true ↦ D.Line (L.Axiom (pair_at s 1)) | false ↦ D.Refused axiom_tail ]
-      | false ↦ elim (eqb (byte_at s 0) 2) [ true ↦ D.Line (L.Resolve (resolution_at s)) | false ↦ D.Refused bad_kind ]
+      | true ↦ elim (bare_tail s) [ true ↦ Ok (L.Axiom (pair_at s 1)) | false ↦ Err axiom_tail ]
+      | false ↦ elim (eqb (byte_at s 0) 2) [ true ↦ Ok (L.Resolve (resolution_at s)) | false ↦ Err bad_kind ]
     ]
 
 -- ---- kinds of files

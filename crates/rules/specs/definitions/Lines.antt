@@ -1,5 +1,5 @@
 -- Lines and maps (01): the row that each line makes, and the line rules in the listed order.
-use Rattle.std.specs.Prelude.{Bool, true, false, cond, not, ◌&&◌, ◌||◌, List, [], ◌∷◌, ◌++◌, ℕ, zero, suc, ◌-◌, ◌^◌, leb, ltb, length, get_or}
+use Rattle.std.specs.Prelude.{Ok, Err, Bool, true, false, cond, not, ◌&&◌, ◌||◌, List, [], ◌∷◌, ◌++◌, ℕ, zero, suc, ◌-◌, ◌^◌, leb, ltb, length, get_or}
 use Rattle.rules.specs.declared.Value.{Value}
 use Rattle.rules.specs.declared.Value.TheVariants.{Star, One, Zero}
 use Rattle.rules.specs.declared.Node.{Node}
@@ -7,8 +7,7 @@ use Rattle.rules.specs.declared.Node.TheVariants.{None, Leaf, Branch}
 use Rattle.rules.specs.declared.Resolution.{Resolution}
 use Rattle.rules.specs.declared.Line.{Line}
 use Rattle.rules.specs.declared.Line.TheVariants as L
-use Rattle.rules.specs.declared.Decoded.{Decoded}
-use Rattle.rules.specs.declared.Decoded.TheVariants as D
+use Rattle.rules.specs.definitions.File.{Decoded}
 use Rattle.rules.specs.definitions.Refusals.{no_clause, no_parent, no_pivot, lacks_plain, lacks_negated, no_universal, result_both_ways, not_left, no_select}
 use Rattle.rules.specs.definitions.Bits.{bit}
 use Rattle.rules.specs.definitions.Sets.{has}
@@ -194,8 +193,8 @@ unfoldable pub line_made : Rules → Formula → List Row → ℕ → Line → M
 line_made R F rows i l = unless_found (first_of (line_faults R F rows i l)) (line_row R F rows i l)
 
 abbrev pub decoded_made : Rules → Formula → List Row → ℕ → Decoded → Made
-decoded_made R F rows i (D.Line l) = line_made R F rows i l
-decoded_made R F rows i (D.Refused n) = refused n 0
+decoded_made R F rows i (Ok l) = line_made R F rows i l
+decoded_made R F rows i (Err n) = refused n 0
 
 -- the line that comes after the rows, from its record
 unfoldable pub next_line : Rules → Formula → List Row → List ℕ → Made

@@ -1,11 +1,10 @@
 -- Demand 2: a line that follows by the rule its record names. 004's axiom and resolution with the record's clause number, parents, pivot
 -- and merge set; 01's house rule as a conjunct of its own; select's third ground as the rules say.
-use Rattle.std.specs.Prelude.{◌≡◌, true, false, List, [], ℕ, suc, ◌≤◌, ◌<◌, length, get_or}
+use Rattle.std.specs.Prelude.{Ok, ◌≡◌, true, false, List, [], ℕ, suc, ◌≤◌, ◌<◌, length, get_or}
 use Rattle.rules.specs.declared.Resolution.{Resolution}
 use Rattle.rules.specs.declared.Line.{Line}
 use Rattle.rules.specs.declared.Line.TheVariants.{Axiom, Resolve}
-use Rattle.rules.specs.declared.Decoded.{Decoded}
-use Rattle.rules.specs.declared.Decoded.TheVariants as D
+use Rattle.rules.specs.definitions.File.{Decoded}
 use Rattle.rules.specs.definitions.Sets.{has}
 use Rattle.rules.specs.definitions.Formula.{Formula, bound_by, universals, resolvent}
 use Rattle.rules.specs.definitions.Formula.Quant.{exists}
@@ -46,7 +45,7 @@ Named C Φ L i (Resolve r) = NamedResolution C Φ L i r
 
 -- line i follows from its record, decoded so
 abbrev pub FollowsRecord : (List ℕ → Decoded) → Calculus → Formula → (ℕ → ProofLine) → ℕ → List ℕ → Type 0
-FollowsRecord decode C Φ L i bytes = (l : Line) × (decode bytes ≡ D.Line l) × Named C Φ L i l
+FollowsRecord decode C Φ L i bytes = (l : Line) × (decode bytes ≡ Ok l) × Named C Φ L i l
 
 -- lines 1 to n follow from the n records
 abbrev pub Follow : (List ℕ → Decoded) → Calculus → Formula → (ℕ → ProofLine) → List (List ℕ) → Type 0

@@ -1,5 +1,7 @@
 -- The refusal numbers of document 01, each named once.
-use Rattle.std.specs.Prelude.{ℕ}
+use Rattle.std.specs.Prelude.{ℕ, Result, Ok, Err}
+use Rattle.rules.specs.declared.refusals.Refusal.{Refusal}
+use Rattle.rules.specs.declared.refusals.Refusal.TheVariants as K
 
 -- ---- 01, Refusal numbers
 abbrev pub long_text : ℕ
@@ -82,3 +84,38 @@ play_range = 41
 
 abbrev pub play_word : ℕ
 play_word = 42
+
+-- ---- the code's refusals
+abbrev pub refusal_number : Refusal → ℕ
+refusal_number K.LongText = long_text
+refusal_number K.ShortTable = short_table
+refusal_number K.BadToken = bad_token
+refusal_number K.HeaderLimit = header_limit
+refusal_number K.NoVariable = no_variable
+refusal_number K.BoundTwice = bound_twice
+refusal_number K.TooManyUniversals = too_many_universals
+refusal_number K.NotBound = not_bound
+refusal_number K.BothWays = both_ways
+refusal_number K.ClauseCount = clause_count
+refusal_number K.BadMark = bad_mark
+refusal_number K.BadLength = bad_length
+refusal_number K.BadLineCount = bad_line_count
+refusal_number K.BadKind = bad_kind
+refusal_number K.AxiomTail = axiom_tail
+refusal_number K.NoClause = no_clause
+refusal_number K.NoParent = no_parent
+refusal_number K.NoPivot = no_pivot
+refusal_number K.LacksPlain = lacks_plain
+refusal_number K.LacksNegated = lacks_negated
+refusal_number K.NoUniversal = no_universal
+refusal_number K.ResultBothWays = result_both_ways
+refusal_number K.NotLeft = not_left
+refusal_number K.NoSelect = no_select
+refusal_number K.NotEmpty = not_empty
+refusal_number K.PlayRange = play_range
+refusal_number K.PlayWord = play_word
+
+-- an answer with a refusal's number in place of the refusal
+abbrev pub numbered : {A : Type 0} → Result A Refusal → Result A ℕ
+numbered (Ok a) = Ok a
+numbered (Err k) = Err (refusal_number k)

@@ -1,8 +1,7 @@
 -- Demand 2: which refusal is given, by stages, each where all before it passes.
-use Rattle.std.specs.Prelude.{◌≡◌, true, false, ℕ, suc, length}
+use Rattle.std.specs.Prelude.{Ok, Err, ◌≡◌, true, false, ℕ, suc, length}
 use mathlib.Core.List.{List, [], ◌∷◌, ◌++◌, Memᴰ}
 use Rattle.rules.specs.declared.Line.{Line}
-use Rattle.rules.specs.declared.Decoded.TheVariants as D
 use Rattle.rules.specs.definitions.Refusals.{not_empty}
 use Rattle.rules.specs.definitions.Faults.{Fault}
 use Rattle.rules.specs.definitions.Faults.Found.{passes}
@@ -44,8 +43,8 @@ pub data Stops (n : ℕ) (st : State) (ts : List Token) (m at : ℕ) : Type 0 wh
 -- ---- lines
 -- the record after the rows is refused: it is no line, or its line breaks a rule, this one first
 pub data Refuses (R : Rules) (F : Formula) (rows : List Row) (bytes : List ℕ) (m v : ℕ) : Type 0 where
-  no_line : R.decode bytes ≡ D.Refused m → v ≡ 0 → Refuses R F rows bytes m v
-  broken_rule : (l : Line) → R.decode bytes ≡ D.Line l → First (line_faults R F rows (suc (length rows)) l) m v → Refuses R F rows bytes m v
+  no_line : R.decode bytes ≡ Err m → v ≡ 0 → Refuses R F rows bytes m v
+  broken_rule : (l : Line) → R.decode bytes ≡ Ok l → First (line_faults R F rows (suc (length rows)) l) m v → Refuses R F rows bytes m v
 
 -- the records before one all pass, and that one is refused, at its own line i
 pub record FirstLine (R : Rules) (F : Formula) (rs : List (List ℕ)) (m i v : ℕ) : Type 0 where

@@ -1,5 +1,5 @@
 -- A line goes into the file and comes back; the records of a file of lines are those lines, and its head passes.
-use Rattle.std.specs.Prelude.{◌≡◌, refl, Bool, true, false, not, ◌&&◌, ◌||◌, eqb, length, get_or, take, drop, replicate}
+use Rattle.std.specs.Prelude.{Ok, Err, ◌≡◌, refl, Bool, true, false, not, ◌&&◌, ◌||◌, eqb, length, get_or, take, drop, replicate}
 use Rattle.std.proofs.Common.{sym, ◌∙◌, arith, take_at, drop-drop}
 use Rattle.std.proofs.Math.Path.{ap}
 use Rattle.std.proofs.lemmas.Bool.{false≢true}
@@ -12,7 +12,6 @@ use borrow.Author.Tests.{eq-eqb, ne_eqb, eqb-true, eqb-false, le-ltb}
 use Rattle.rules.specs.declared.Resolution.{Resolution}
 use Rattle.rules.specs.declared.Line.{Line}
 use Rattle.rules.specs.declared.Line.TheVariants as L
-use Rattle.rules.specs.declared.Decoded.TheVariants as D
 use Rattle.rules.specs.definitions.Layout.{record_bytes, head_bytes}
 use Rattle.rules.specs.definitions.Limits.{lines_most}
 use Rattle.rules.specs.definitions.Refusals.{bad_mark, bad_length, bad_line_count, bad_kind, axiom_tail}
@@ -52,31 +51,31 @@ first_passed n t fs e = ap (λ (t : Bool). first_of (fault n t ∷ fs)) e
 
 -- ---- what a record decodes to, by its first byte
 module _ (s : List ℕ) where
-  pub decoded_axiom : get_or s 0 0 ≡ 1 → bare_tail s ≡ true → decoded s ≡ D.Line (L.Axiom (pair_at s 1))
+  pub decoded_axiom : get_or s 0 0 ≡ 1 → bare_tail s ≡ true → decoded s ≡ Ok (L.Axiom (pair_at s 1))
   unfolding decoded
   decoded_axiom k t = rw (decoded, eq-eqb _ _ k, t)
 
-  pub decoded_tail : get_or s 0 0 ≡ 1 → bare_tail s ≡ false → decoded s ≡ D.Refused axiom_tail
+  pub decoded_tail : get_or s 0 0 ≡ 1 → bare_tail s ≡ false → decoded s ≡ Err axiom_tail
   unfolding decoded
   decoded_tail k t = rw (decoded, eq-eqb _ _ k, t)
 
-  pub decoded_resolution : (get_or s 0 0 ≡ 1 → ⊥) → get_or s 0 0 ≡ 2 → decoded s ≡ D.Line (L.Resolve (resolution_at s))
+  pub decoded_resolution : (get_or s 0 0 ≡ 1 → ⊥) → get_or s 0 0 ≡ 2 → decoded s ≡ Ok (L.Resolve (resolution_at s))
   unfolding decoded
   decoded_resolution k t = simp (decoded, ne_eqb _ _ k, eq-eqb _ _ t)
 
-  pub decoded_kind : (get_or s 0 0 ≡ 1 → ⊥) → (get_or s 0 0 ≡ 2 → ⊥) → decoded s ≡ D.Refused bad_kind
+  pub decoded_kind : (get_or s 0 0 ≡ 1 → ⊥) → (get_or s 0 0 ≡ 2 → ⊥) → decoded s ≡ Err bad_kind
   unfolding decoded
   decoded_kind k t = simp (decoded, ne_eqb _ _ k, ne_eqb _ _ t)
 
   -- a refusal has its number
-  pub refused_number : (n : ℕ) → decoded s ≡ D.Refused n → 1 ≤ n
+  pub refused_number : (n : ℕ) → decoded s ≡ Err n → 1 ≤ n
   refused_number n e = first (eqb (get_or s 0 0) 1) refl
     where
-      told : (k : ℕ) → 1 ≤ k → decoded s ≡ D.Refused k → 1 ≤ n
-      told k h p = let q : D.Refused n ≡ D.Refused k = sym e ∙ p in let z : n ≡ k = cc in omega arith
+      told : (k : ℕ) → 1 ≤ k → decoded s ≡ Err k → 1 ≤ n
+      told k h p = let q : Err n ≡ Err k = sym e ∙ p in let z : n ≡ k = cc in omega arith
 
-      none : (l : Line) → decoded s ≡ D.Line l → 1 ≤ n
-      none l p = let q : D.Refused n ≡ D.Line l = sym e ∙ p in let z : ◌≡◌ {A = ℕ} 0 1 = cc in absurd (omega arith)
+      none : (l : Line) → decoded s ≡ Ok l → 1 ≤ n
+      none l p = let q : Err n ≡ Ok l = sym e ∙ p in let z : ◌≡◌ {A = ℕ} 0 1 = cc in absurd (omega arith)
 
       second : (get_or s 0 0 ≡ 1 → ⊥) → (t : Bool) → eqb (get_or s 0 0) 2 ≡ t → 1 ≤ n
       second o true t = none _ (decoded_resolution o (eqb-true (get_or s 0 0) 2 t))
@@ -96,7 +95,7 @@ pair_back : (n : ℕ) → n % 256 + n / 256 * 256 ≡ n
 pair_back n = omega arith
 
 -- the bytes of a line decode to it
-pub decoded_encoded : (l : Line) → decoded (encoded l) ≡ D.Line l
+pub decoded_encoded : (l : Line) → decoded (encoded l) ≡ Ok l
 unfolding decoded encoded pair_at
 decoded_encoded (L.Axiom c) = rw (pair_back c)
 decoded_encoded (L.Resolve r) = rw (pair_back r.a, pair_back r.b, pair_back r.merge)
@@ -128,7 +127,7 @@ high a b h = omega arith
 
 -- eight bytes that decode to a line are the bytes of that line
 encoded_eight : (k a b c d e f g : ℕ) (l : Line) → a < 256 → c < 256 → f < 256
-    → decoded (k ∷ a ∷ b ∷ c ∷ d ∷ e ∷ f ∷ g ∷ []) ≡ D.Line l → encoded l ≡ k ∷ a ∷ b ∷ c ∷ d ∷ e ∷ f ∷ g ∷ []
+    → decoded (k ∷ a ∷ b ∷ c ∷ d ∷ e ∷ f ∷ g ∷ []) ≡ Ok l → encoded l ≡ k ∷ a ∷ b ∷ c ∷ d ∷ e ∷ f ∷ g ∷ []
 unfolding encoded pair_at
 encoded_eight k a b c d e f g l ha hc hf h = first (eqb k 1) refl
   where
@@ -137,25 +136,25 @@ encoded_eight k a b c d e f g l ha hc hf h = first (eqb k 1) refl
 
     as_axiom : (t : Bool) → bare_tail s ≡ t → k ≡ 1 → encoded l ≡ s
     as_axiom true t one =
-        let p : D.Line l ≡ D.Line (L.Axiom (a + b * 256)) = sym h ∙ decoded_axiom s one t in
+        let p : Ok l ≡ Ok (L.Axiom (a + b * 256)) = sym h ∙ decoded_axiom s one t in
         let q : l ≡ L.Axiom (a + b * 256) = cc in
         ap encoded q ∙ rw (low a b ha, high a b ha, one, tail_zero c d e f g t)
-    as_axiom false t one = let p : D.Line l ≡ D.Refused axiom_tail = sym h ∙ decoded_tail s one t in let z : ◌≡◌ {A = ℕ} 0 1 = cc in absurd (omega arith)
+    as_axiom false t one = let p : Ok l ≡ Err axiom_tail = sym h ∙ decoded_tail s one t in let z : ◌≡◌ {A = ℕ} 0 1 = cc in absurd (omega arith)
 
     second : (t : Bool) → eqb k 2 ≡ t → (k ≡ 1 → ⊥) → encoded l ≡ s
     second true t other =
         let r : Resolution = record { a = a + b * 256; b = c + d * 256; pivot = e; merge = f + g * 256 } in
-        let p : D.Line l ≡ D.Line (L.Resolve r) = sym h ∙ decoded_resolution s other (eqb-true k 2 t) in
+        let p : Ok l ≡ Ok (L.Resolve r) = sym h ∙ decoded_resolution s other (eqb-true k 2 t) in
         let q : l ≡ L.Resolve r = cc in
         ap encoded q ∙ rw (low a b ha, high a b ha, low c d hc, high c d hc, low f g hf, high f g hf, eqb-true k 2 t)
-    second false t other = let p : D.Line l ≡ D.Refused bad_kind = sym h ∙ decoded_kind s other (eqb-false k 2 t) in let z : ◌≡◌ {A = ℕ} 0 1 = cc in absurd (omega arith)
+    second false t other = let p : Ok l ≡ Err bad_kind = sym h ∙ decoded_kind s other (eqb-false k 2 t) in let z : ◌≡◌ {A = ℕ} 0 1 = cc in absurd (omega arith)
 
     first : (t : Bool) → eqb k 1 ≡ t → encoded l ≡ s
     first true t = as_axiom (bare_tail s) refl (eqb-true k 1 t)
     first false t = second (eqb k 2) refl (eqb-false k 1 t)
 
 -- a record of 8 bytes that decodes to a line is the line's bytes
-pub encoded_decoded : (s : List ℕ) (l : Line) → length s ≡ record_bytes → AllBytes s → decoded s ≡ D.Line l → encoded l ≡ s
+pub encoded_decoded : (s : List ℕ) (l : Line) → length s ≡ record_bytes → AllBytes s → decoded s ≡ Ok l → encoded l ≡ s
 encoded_decoded [] l n h e = absurd (omega arith)
 encoded_decoded (x0 ∷ []) l n h e = absurd (omega arith)
 encoded_decoded (x0 ∷ x1 ∷ []) l n h e = absurd (omega arith)

@@ -1,5 +1,5 @@
 -- Rows that all pass: what each line followed from, and that they keep to `Good`.
-use Rattle.std.specs.Prelude.{◌≡◌, refl, Bool, true, false, not, ◌&&◌, ◌||◌, ◌↔◌, ◌⊎◌, ◌≢◌, ℕ, zero, suc, ◌+◌, ◌-◌, ◌^◌, ◌≤◌, ◌<◌, eqb, leb, ltb, length, get_or}
+use Rattle.std.specs.Prelude.{Ok, Err, ◌≡◌, refl, Bool, true, false, not, ◌&&◌, ◌||◌, ◌↔◌, ◌⊎◌, ◌≢◌, ℕ, zero, suc, ◌+◌, ◌-◌, ◌^◌, ◌≤◌, ◌<◌, eqb, leb, ltb, length, get_or}
 use Rattle.std.proofs.Common.{ap, sym, ◌∙◌, subst, true≢false, inl, inr, arith, zero-add, suc-add, add-suc, add-zero, length-append, ltb-true, ltb-false, leb-true, leb-false, lt-ltb, le-ltb, le-leb}
 use Rattle.std.proofs.lemmas.Bool.{false≢true, not-false, lt-leb}
 use mathlib.Core.List.{List, [], ◌∷◌, ◌++◌, Memᴰ}
@@ -12,8 +12,7 @@ use Rattle.rules.specs.declared.Value.{Value}
 use Rattle.rules.specs.declared.Resolution.{Resolution}
 use Rattle.rules.specs.declared.Line.{Line}
 use Rattle.rules.specs.declared.Line.TheVariants as L
-use Rattle.rules.specs.declared.Decoded.{Decoded}
-use Rattle.rules.specs.declared.Decoded.TheVariants as D
+use Rattle.rules.specs.definitions.File.{Decoded}
 use Rattle.rules.specs.definitions.Sets.{Set, has}
 use Rattle.theory.specs.laws.Sets.{and_left, and_right, or_cases, has_range}
 use Rattle.theory.specs.laws.Formula.{proper_fits, length_existentials, has_existentials, Worded, kept_words, resolvent_words, has_kept_plain, has_kept_negated, has_resolvent_plain, has_resolvent_negated}
@@ -523,17 +522,17 @@ good_follows R F rows (L.Axiom c) row proper g f = good_more R F rows row g (rw 
 good_follows R F rows (L.Resolve r) row proper g f = good_more R F rows row g (rw f.1 (resolution_good R F rows g r (in_set r.merge) f.0.parents f.0.maps))
 
 decoded_follows : (R : Rules) (F : Formula) (rows : List Row) (d : Decoded) (row : Row) → decoded_made R F rows (suc (length rows)) d ≡ made row
-    → (l : Line) × (d ≡ D.Line l) × Follows R F rows (suc (length rows)) l row
-decoded_follows R F rows (D.Line l) row h = (l, refl, (line_follows R F rows (suc (length rows)) l row).0 h)
-decoded_follows R F rows (D.Refused n) row h = absurd (refused≢made h)
+    → (l : Line) × (d ≡ Ok l) × Follows R F rows (suc (length rows)) l row
+decoded_follows R F rows (Ok l) row h = (l, refl, (line_follows R F rows (suc (length rows)) l row).0 h)
+decoded_follows R F rows (Err n) row h = absurd (refused≢made h)
 
 -- a record that makes a row is a line that follows
 pub next_follows : (R : Rules) (F : Formula) (rows : List Row) (bytes : List ℕ) (row : Row) → next_line R F rows bytes ≡ made row
-    → (l : Line) × (R.decode bytes ≡ D.Line l) × Follows R F rows (suc (length rows)) l row
+    → (l : Line) × (R.decode bytes ≡ Ok l) × Follows R F rows (suc (length rows)) l row
 unfolding next_line
 next_follows R F rows bytes row h = decoded_follows R F rows (R.decode bytes) row h
 
-pub follows_next : (R : Rules) (F : Formula) (rows : List Row) (bytes : List ℕ) (row : Row) (l : Line) → R.decode bytes ≡ D.Line l
+pub follows_next : (R : Rules) (F : Formula) (rows : List Row) (bytes : List ℕ) (row : Row) (l : Line) → R.decode bytes ≡ Ok l
     → Follows R F rows (suc (length rows)) l row → next_line R F rows bytes ≡ made row
 unfolding next_line
 follows_next R F rows bytes row l e f = rw e ((line_follows R F rows (suc (length rows)) l row).1 f)

@@ -1,10 +1,9 @@
 -- A refusal's number is one of the list: 3 to 10 from the text, 11 to 13 from the head, 21 to 31 from a line, 32 from the last clause.
-use Rattle.std.specs.Prelude.{◌≡◌, refl, Bool, true, false, cond, not, List, [], ◌∷◌, ◌++◌, ℕ, zero, suc, ◌≤◌, ltb, eqb, pos, negsuc, length, get_or}
+use Rattle.std.specs.Prelude.{Ok, Err, ◌≡◌, refl, Bool, true, false, cond, not, List, [], ◌∷◌, ◌++◌, ℕ, zero, suc, ◌≤◌, ltb, eqb, pos, negsuc, length, get_or}
 use Rattle.std.proofs.Common.{subst, sym, arith}
 use Rattle.rules.specs.declared.Line.{Line}
 use Rattle.rules.specs.declared.Line.TheVariants as L
-use Rattle.rules.specs.declared.Decoded.{Decoded}
-use Rattle.rules.specs.declared.Decoded.TheVariants as D
+use Rattle.rules.specs.definitions.File.{Decoded}
 use Rattle.rules.specs.declared.Resolution.{Resolution}
 use Rattle.rules.specs.definitions.Faults.{Fault, fault, Found, first_of}
 use Rattle.rules.specs.definitions.Faults.Found.{passes, fails}
@@ -209,8 +208,8 @@ made_within (fails n v) row w = w
 
 -- a record that is no line is refused with 21 or 22
 abbrev pub DecodedWithin : Decoded → Type 0
-DecodedWithin (D.Line l) = Unit {0}
-DecodedWithin (D.Refused n) = Within 21 31 n
+DecodedWithin (Ok l) = Unit {0}
+DecodedWithin (Err n) = Within 21 31 n
 
 pub decoded_within : (s : List ℕ) → DecodedWithin (decoded s)
 unfolding decoded
@@ -219,8 +218,8 @@ decoded_within s = by (eqb (get_or s 0 0) 1) (bare_tail s) (eqb (get_or s 0 0) 2
     by : (a b c : Bool)
         → DecodedWithin
         (elim a [
-          | true ↦ elim b [ true ↦ D.Line (L.Axiom (pair_at s 1)) | false ↦ D.Refused axiom_tail ]
-          | false ↦ elim c [ true ↦ D.Line (L.Resolve (resolution_at s)) | false ↦ D.Refused bad_kind ]
+          | true ↦ elim b [ true ↦ Ok (L.Axiom (pair_at s 1)) | false ↦ Err axiom_tail ]
+          | false ↦ elim c [ true ↦ Ok (L.Resolve (resolution_at s)) | false ↦ Err bad_kind ]
         ])
     by true true c = tt
     by true false c = omega arith
@@ -236,9 +235,9 @@ line_within R decodes F rows bytes = by (R.decode bytes) (decodes bytes)
     i = suc (length rows)
 
     by : (d : Decoded) → DecodedWithin d → MadeWithin (decoded_made R F rows (suc (length rows)) d)
-    by (D.Line l) w =
+    by (Ok l) w =
         made_within (first_of (line_faults R F rows i l)) (line_row R F rows i l) (first_within 21 31 (line_faults R F rows i l) (faults_within R F rows i l))
-    by (D.Refused n) w = w
+    by (Err n) w = w
 
 abbrev PassedWithin : Passed → Type 0
 PassedWithin (passed rows) = Unit {0}

@@ -51,6 +51,10 @@ pub holding_none : (n : ℕ) (l : List ℕ) → replicate n 0 ++ drop n l ≡ ho
 unfolding holding padded
 holding_none n l = let e : n ≡ n - 0 = omega arith in ap (λ (k : ℕ). replicate k 0 ++ drop n l) e
 
+-- the same as `fill(0)` leaves it
+pub holding_filled : (n : ℕ) (ws l : List ℕ) → n ≤ length l → ws ≡ replicate (length (take n l)) 0 → ws ++ drop n l ≡ holding n [] l
+holding_filled n ws l h e = rw (e, length-take-le n l h) (holding_none n l)
+
 abbrev pub zeros : ℕ → List ℕ
 zeros n = replicate n 0
 

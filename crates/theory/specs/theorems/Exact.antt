@@ -3,7 +3,7 @@ use Rattle.std.specs.Prelude.{◌≡◌, refl, Bool, true, false, List, [], ◌�
 use Rattle.std.proofs.Common.{ap, sym, ◌∙◌, subst, inl, inr, arith, eq-eqb, ne_eqb}
 use Rattle.rules.specs.declared.Line.{Line}
 use Rattle.rules.specs.declared.Line.TheVariants.{Axiom, Resolve}
-use Rattle.rules.specs.declared.Decoded.{Decoded}
+use Rattle.rules.specs.definitions.File.{Decoded}
 use Rattle.rules.specs.definitions.Formula.{Clause, Formula, Assignment, universals, empty_clause}
 use Rattle.rules.specs.definitions.Maps.{Column, plays}
 use Rattle.rules.specs.definitions.File.{Form, announced, head_fault, records}

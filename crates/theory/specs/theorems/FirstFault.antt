@@ -1,11 +1,10 @@
 -- Which refusal is given: that of the first broken rule in the listed order, at its place, where all that comes before passes.
 use Rattle.std.proofs.Math.Path.{◌≡◌, refl, ap}
-use Rattle.std.proofs.Common.{sym, ◌∙◌, subst, inl, inr, arith}
+use Rattle.std.proofs.Common.{Ok, Err, sym, ◌∙◌, subst, inl, inr, arith}
 use Rattle.std.specs.Prelude.{Bool, true, false, ◌⊎◌, ◌↔◌, ℕ, suc, length}
 use mathlib.Core.List.Memᴰ
 use mathlib.Core.List.{List, [], ◌∷◌, ◌++◌, append-nil, Memᴰ}
-use Rattle.rules.specs.declared.Decoded.{Decoded}
-use Rattle.rules.specs.declared.Decoded.TheVariants as D
+use Rattle.rules.specs.definitions.File.{Decoded}
 use Rattle.rules.specs.definitions.Faults.{Fault, Found, first_of}
 use Rattle.rules.specs.definitions.Faults.Found.{passes, fails}
 use Rattle.rules.specs.definitions.Formula.{Formula}
@@ -111,10 +110,10 @@ unless_refused (fails k w) row m v e = cc
 decoded_refused : (R : Rules) (F : Formula) (rows : List Row) (bytes : List ℕ) (m v : ℕ) (d : Decoded) → R.decode bytes ≡ d
     → decoded_made R F rows (suc (length rows)) d ≡ refused m v → Refuses R F rows bytes m v
 unfolding line_made
-decoded_refused R F rows bytes m v (D.Line l) e h =
+decoded_refused R F rows bytes m v (Ok l) e h =
     let i = suc (length rows) in
     broken_rule l e ((first_exact (line_faults R F rows i l) m v).0 (unless_refused (first_of (line_faults R F rows i l)) (line_row R F rows i l) m v h))
-decoded_refused R F rows bytes m v (D.Refused k) e h = no_line (e ∙ cc) (cc)
+decoded_refused R F rows bytes m v (Err k) e h = no_line (e ∙ cc) (cc)
 
 pub record_exact : (R : Rules) (F : Formula) (rows : List Row) (bytes : List ℕ) (m v : ℕ) → (next_line R F rows bytes ≡ refused m v) ↔ Refuses R F rows bytes m v
 unfolding next_line line_made

@@ -1,6 +1,6 @@
 -- Rows hold 004's lines: a line follows by the rule that its record names exactly where it passes and its row holds it.
 use Rattle.std.proofs.Math.Path.{◌≡◌, refl, ap₂, sym, subst, subst₂}
-use Rattle.std.proofs.Common.{ap, ◌∙◌, true≢false, inl, inr, arith}
+use Rattle.std.proofs.Common.{Ok, ap, ◌∙◌, true≢false, inl, inr, arith}
 use Rattle.std.specs.Prelude.{Bool, ◌&&◌, ◌↔◌, get_or}
 use Rattle.std.proofs.Math.Bool.{true, false}
 use Rattle.std.proofs.lemmas.Bool.{false≢true}
@@ -12,7 +12,6 @@ use Rattle.std.proofs.Math.ListN.{length}
 use Rattle.rules.specs.declared.Resolution.{Resolution}
 use Rattle.rules.specs.declared.Line.{Line}
 use Rattle.rules.specs.declared.Line.TheVariants.{Axiom, Resolve}
-use Rattle.rules.specs.declared.Decoded.TheVariants as D
 use Rattle.theory.specs.laws.Bits.{bit_past, members_below}
 use Rattle.rules.specs.definitions.Sets.{has}
 use Rattle.rules.specs.definitions.Formula.{Clause, Formula, bound_by, universals, existentials, kept_by, resolvent}
@@ -398,7 +397,7 @@ module _ (R : Rules) (C : Calculus) (decides : Decides R C) (F : Formula) (prope
           before : Hold F L rows
           before i p q = holds_before R F rows good row L i p q (more.0 i p (omega (arith, rows_grown rows row)))
 
-          f : (l : Line) × (R.decode r ≡ D.Line l) × Follows R F rows (suc (length rows)) l row
+          f : (l : Line) × (R.decode r ≡ Ok l) × Follows R F rows (suc (length rows)) l row
           f = next_follows R F rows r row m
 
           at : (i : ℕ) → i < suc (length rs) → FollowsRecord R.decode C F L (suc (length rows + i)) (get_or (r ∷ rs) i [])

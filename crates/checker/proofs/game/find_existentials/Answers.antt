@@ -1,28 +1,34 @@
--- `checker::game::find_existentials` meets its contract. The invariant: the set is that of the existential variables from place i on.
+-- `checker::game::find_existentials` meets its contract. The invariant: the words still to come are the first of the prefix, and the set is that of the existential variables behind them.
+use Rattle.std.proofs.Common.{◌≡◌, length, take, sym, ap, ◌∙◌, rules, arith}
+use lib.Seq.{length-take-le}
 use Rattle.rules.specs.definitions.Layout.{prefix_words}
-use mathlib.Core.Path.{sym, ◌∙◌}
-use native.Mathlib.Omega.{arith}
-use Rattle.checker.proofs.Games.{narrow_at, existentials_end, existentials_more, existentials_all}
+use Rattle.checker.proofs.Games.{narrow_at, last_taken, existentials_end, existentials_from}
 use Rattle.checker.proofs.game.find_existentials.Goals as goal
 
-pub loop-i-init : goal.loop-i-init
+pub loop-word-init : goal.loop-word-init
 unfolding prefix_words
-loop-i-init c = (omega arith, λ F P. c.none-s.ensures ∙ sym (existentials_end F _ c.requires.0 P))
-
-pub bounds-prefix-i : goal.bounds-prefix-i
-unfolding prefix_words
-bounds-prefix-i c = omega arith
+loop-word-init c =
+    let ws = c.into_iter-word-iterator.result.iter.rest.now in
+    let e : ws ≡ take prefix_words c.args.prefix.now = search rules in
+    let n : length ws ≡ prefix_words = ap length e ∙ length-take-le prefix_words c.args.prefix.now c.requires.0 in
+    record {
+      few = omega (arith, n);
+      first = rw n e;
+      so_far = λ F P. rw n (c.none-s.ensures ∙ sym (existentials_end F c.args.prefix.now c.requires.0 P));
+    }
 
 pub existential-s-requires : goal.existential-s-requires
-unfolding prefix_words
-existential-s-requires c = let R = c.requires.1 in narrow_at R.0 _ c.requires.0 R.1 _ (omega arith)
+existential-s-requires c =
+    let l = c.loop-word in
+    let z = last_taken c.args.prefix.now l.word-iterator.iter.rest.now c.next.new.self.iter.rest.now c.in-Some.word.now c.requires.0 l.invariant.few l.invariant.first c.in-Some.ensures.steps in
+    rw z.2 (narrow_at c.requires.1.0 c.args.prefix.now c.requires.0 c.requires.1.1 (length c.next.new.self.iter.rest.now) (omega (arith, z.0, l.invariant.few)))
 
-pub loop-i-smaller : goal.loop-i-smaller
-loop-i-smaller c = omega arith
-
-pub loop-i-preserved : goal.loop-i-preserved
-unfolding prefix_words
-loop-i-preserved c = (omega arith, λ F P. c.existential-s.ensures ∙ existentials_more F _ c.requires.0 P c.loop-i.i _ (omega arith) (omega arith) (c.loop-i.invariant.1 F P))
-
-pub returns : goal.returns
-returns c = λ F P. existentials_all F _ c.loop-i.i (omega arith) (c.loop-i.invariant.1 F P)
+pub loop-word-preserved : goal.loop-word-preserved
+loop-word-preserved c =
+    let l = c.loop-word in
+    let z = last_taken c.args.prefix.now l.word-iterator.iter.rest.now c.next.new.self.iter.rest.now c.in-Some.word.now c.requires.0 l.invariant.few l.invariant.first c.in-Some.ensures.steps in
+    record {
+      few = omega (arith, z.0, l.invariant.few);
+      first = z.1;
+      so_far = λ F P. c.existential-s.ensures ∙ rw (z.2, l.invariant.so_far F P, z.0) (existentials_from F c.args.prefix.now c.requires.0 P (length c.next.new.self.iter.rest.now) (omega (arith, z.0, l.invariant.few)));
+    }

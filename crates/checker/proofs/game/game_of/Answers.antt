@@ -1,38 +1,55 @@
--- `checker::game::game_of` meets its contract. The invariant: the first i variables of the prefix are bound.
-use mathlib.Core.Path.{refl, ap, ◌∙◌}
-use native.Mathlib.Omega.{arith}
+-- `checker::game::game_of` meets its contract. The invariant: the first variables of the prefix are bound.
+use Rattle.std.proofs.Common.{◌<◌, refl, sym, ap, ◌∙◌, arith}
+use lib.Seq.{get_or-take, length-take-le}
 use Rattle.sets.specs.Values.{set_of}
 use Rattle.rules.specs.definitions.Layout.{prefix_words}
 use Rattle.checker.proofs.Games.{narrow_at, prefix_fits, word_inside, word_outside, universal_room, first_next, game_whole}
 use Rattle.checker.proofs.game.game_of.Goals as goal
 
-pub find_existentials-requires : goal.find_existentials-requires
-find_existentials-requires c = c.requires
-
-pub loop-i-init : goal.loop-i-init
-loop-i-init c = (omega arith, refl, c.begin-g.ensures.count, λ F P. (omega arith, c.begin-g.ensures.begun F.prefix))
-
-pub bounds-prefix-i : goal.bounds-prefix-i
+pub slice_bounds-word-items-end : goal.slice_bounds-word-items-end
 unfolding prefix_words
-bounds-prefix-i c = omega arith
+slice_bounds-word-items-end c = sym (length-take-le 64 c.args.prefix.now c.requires.0)
 
-pub returns-then-w-eq0 : goal.returns-then-w-eq0
-returns-then-w-eq0 c = λ F s P n. let l = c.loop-i in game_whole F l.i l.g (word_outside F _ c.requires.0 P l.i c.if-w-eq0.true) (l.invariant.2 ∙ n) (l.invariant.1 ∙ ap set_of c.begin-g.ensures.existential_set ∙ c.find_existentials.ensures F P) (l.invariant.3 F P).1 s
+pub loop-word-init : goal.loop-word-init
+loop-word-init c = record { clauses = c.begin-g.ensures.clauses; count = c.begin-g.ensures.count; existential_set = refl; bound_so = λ F P. (omega arith, c.begin-g.ensures.begun F.prefix) }
+
+pub offset_bounds-word-items-word-index : goal.offset_bounds-word-items-word-index
+unfolding prefix_words
+offset_bounds-word-items-word-index c = omega (arith, length-take-le 64 c.args.prefix.now c.requires.0)
+
+pub returns-then-word-eq0-clause-game : goal.returns-then-word-eq0-clause-game
+unfolding prefix_words
+returns-then-word-eq0-clause-game c = λ F s P n. let l = c.loop-word in
+    game_whole F l.word-index l.g (word_outside F _ c.requires.0 P l.word-index (sym (get_or-take 64 _ l.word-index 0 (omega (arith, length-take-le 64 c.args.prefix.now c.requires.0))) ∙ c.if-word-eq0.true)) (l.invariant.count ∙ n)
+    (l.invariant.existential_set ∙ ap set_of c.begin-g.ensures.existential_set ∙ c.find_existentials.ensures F P) (l.invariant.bound_so F P).1 s
 
 pub bind-g-requires : goal.bind-g-requires
 unfolding prefix_words
-bind-g-requires c = let l = c.loop-i in let R = c.requires.1 in let i : _ = word_inside R.0 _ c.requires.0 R.1 l.i c.loop-i-test.true c.if-w-eq0.false in (narrow_at R.0 _ c.requires.0 R.1 l.i c.loop-i-test.true, omega (arith, c.if-w-eq0.false), universal_room R.0 _ c.requires.0 R.1 l.i i l.g (l.invariant.3 R.0 R.1).1)
+bind-g-requires c =
+    let l = c.loop-word in
+    let R = c.requires.1 in
+    let i : l.word-index < 64 = omega (arith, length-take-le 64 c.args.prefix.now c.requires.0) in
+    let w = get_or-take 64 c.args.prefix.now l.word-index 0 i in
+    let h = word_inside R.0 _ c.requires.0 R.1 l.word-index i (λ z. c.if-word-eq0.false (w ∙ z)) in
+    rw w (narrow_at R.0 _ c.requires.0 R.1 l.word-index i, omega (arith, w, c.if-word-eq0.false), universal_room R.0 _ c.requires.0 R.1 l.word-index h l.g (l.invariant.bound_so R.0 R.1).1)
 
-pub overflow_add-i : goal.overflow_add-i
-overflow_add-i c = omega arith
-
-pub loop-i-smaller : goal.loop-i-smaller
-loop-i-smaller c = omega arith
-
-pub loop-i-preserved : goal.loop-i-preserved
+pub loop-word-preserved : goal.loop-word-preserved
 unfolding prefix_words
-loop-i-preserved c = let l = c.loop-i in (omega arith, ap set_of c.bind-g.ensures.same.existential_set ∙ l.invariant.1, c.bind-g.ensures.same.count ∙ l.invariant.2, λ F P. let i : _ = word_inside F _ c.requires.0 P l.i c.loop-i-test.true c.if-w-eq0.false in (omega arith, first_next F _ c.requires.0 P l.i i l.g c.bind-g.result (l.invariant.3 F P).1 c.bind-g.ensures))
+loop-word-preserved c =
+    let l = c.loop-word in
+    let i : l.word-index < 64 = omega (arith, length-take-le 64 c.args.prefix.now c.requires.0) in
+    let w = get_or-take 64 c.args.prefix.now l.word-index 0 i in
+    record {
+      clauses = c.bind-g.ensures.same.clauses ∙ l.invariant.clauses;
+      count = c.bind-g.ensures.same.count ∙ l.invariant.count;
+      existential_set = ap set_of c.bind-g.ensures.same.existential_set ∙ l.invariant.existential_set;
+      bound_so = λ F P.
+          let h = word_inside F _ c.requires.0 P l.word-index i (λ z. c.if-word-eq0.false (w ∙ z)) in
+          (omega arith, first_next F _ c.requires.0 P l.word-index h l.g c.bind-g.result (l.invariant.bound_so F P).1 (rw w at c.bind-g.ensures));
+    }
 
-pub returns : goal.returns
+pub returns-clause-game : goal.returns-clause-game
 unfolding prefix_words
-returns c = λ F s P n. let l = c.loop-i in game_whole F l.i l.g (omega (arith, prefix_fits F _ c.requires.0 P, c.loop-i-test.false)) (l.invariant.2 ∙ n) (l.invariant.1 ∙ ap set_of c.begin-g.ensures.existential_set ∙ c.find_existentials.ensures F P) (l.invariant.3 F P).1 s
+returns-clause-game c = λ F s P n. let l = c.loop-word in
+    game_whole F l.word-index l.g (omega (arith, prefix_fits F _ c.requires.0 P, c.loop-word-test.false, length-take-le 64 c.args.prefix.now c.requires.0)) (l.invariant.count ∙ n)
+    (l.invariant.existential_set ∙ ap set_of c.begin-g.ensures.existential_set ∙ c.find_existentials.ensures F P) (l.invariant.bound_so F P).1 s

@@ -1,6 +1,6 @@
 -- `checker::maps_row::map_entry` meets its contract: the parents' roots are the rows', and the answer is the merge's or select's (MapRows).
 use mathlib.Core.Path.{sym, ◌∙◌}
-use Rattle.checker.proofs.MapRows.{line_place, merge_asks, select_asks, merge_gets, select_gets}
+use Rattle.checker.proofs.MapRows.{line_place, merge_asks, select_asks, column_asks, merge_gets, select_gets}
 use Rattle.checker.proofs.maps_row.map_entry.Goals as goal
 
 pub root_of-a-requires : goal.root_of-a-requires
@@ -37,6 +37,12 @@ select_entry-requires c =
     select_asks p.0 p.1 p.2 c.args.nodes.now p.3 c.args.roots.now p.4 c.args.r c.args.i p.6 c.args.j p.5.offset _ _
     c.root_of-a.ensures
     c.root_of-b.ensures
+
+pub invariant_of-select_entry : goal.invariant_of-select_entry
+invariant_of-select_entry c =
+    let p = c.requires in
+    let q : _ = column_asks p.0 p.1 p.2 c.args.nodes.now p.3 c.args.roots.now p.4 c.args.r c.args.i p.6 c.args.j p.5.offset in
+    record { long = q.0; in_range = q.1 }
 
 pub returns : goal.returns
 returns c = λ R F rows nodes₀ roots₀ L S.

@@ -1,91 +1,79 @@
--- `checker::run::run` meets its contract. The invariant: after i lines their rows stand in the tables, and the run from the start is the run of the records left (Runs).
-use Rattle.checker.proofs.Runs.{so_far_none, ready, record_part, record_long, so_far_stop, so_far_more, so_far_all}
-use mathlib.Core.Path.{refl}
-use native.Mathlib.Omega.{arith}
-use borrow.Author.Rules.{rules}
+-- `run::run` meets its contract. The invariant: after i lines their rows stand in the tables, and the run from the start is the run of the records left (Runs).
+use Rattle.std.proofs.Common.{◌≡◌, ◌≤◌, ◌+◌, ◌*◌, ◌-◌, drop, take, length, ℕ, Err, refl, ap, sym, ◌∙◌, rules, arith}
+use lib.Seq.{length-take-le}
+use lib.ListN.{length-drop}
+use Rattle.rules.specs.definitions.Layout.{head_bytes}
+use Rattle.rules.specs.definitions.File.{split}
+use Rattle.checker.proofs.Faulted.{error_from, value_from}
+use Rattle.checker.specs.Tables.{words_of}
+use Rattle.checker.specs.Runs.{SoFar}
+use Rattle.checker.proofs.Runs.{so_far_none, ready, record_taken, so_far_stop, so_far_more, so_far_all}
 use Rattle.checker.proofs.run.run.Goals as goal
 
 pub loop-i-init : goal.loop-i-init
 loop-i-init c =
-    (omega arith, refl, refl, refl, λ R F W. so_far_none R F _ c.args.clauses.now c.args.proof.now c.args.n W c.requires.0 c.args.lines.now c.args.nodes.now c.args.roots.now c.requires.2)
+    let z : c.into_iter-i-iterator.result.count ≡ 0 = search rules in
+    let r : c.into_iter-i-iterator.result.iter.rest.now ≡ take (7 + 8 * c.args.n - 7) (drop 7 c.args.proof.now) = search rules in
+    let e : 7 + 8 * c.args.n - 7 ≡ 8 * c.args.n = omega arith in
+    record {
+      same = (refl, refl, refl);
+      size = search rules;
+      few = search rules;
+      left = rw z (r ∙ ap (λ (k : ℕ). take k (drop 7 c.args.proof.now)) e);
+      so_far = λ R F W. rw z (so_far_none R F _ c.args.proof.now c.args.n W c.requires.records.0 _ c.requires.blank);
+    }
 
-pub make_line-m-requires : goal.make_line-m-requires
-make_line-m-requires c =
+pub make_line-requires : goal.make_line-requires
+make_line-requires c =
+    let R = c.requires.formula.0 in
+    let F = c.requires.formula.1 in
+    let W = c.requires.formula.2 in
     let l = c.loop-i in
-    let h = c.loop-i-test.true in
-    let R = c.requires.3.0 in
-    let F = c.requires.3.1 in
-    let W = c.requires.3.2 in
-    let S = l.invariant.4 R F W in (
-      record_long c.args.proof.now c.args.n l.i c.requires.1 h,
-      (
-        R,
-        F,
-        S.rows,
-        c.args.lines.now,
-        c.args.nodes.now,
-        c.args.roots.now,
-        ready R F _ c.args.clauses.now c.args.proof.now c.args.n W c.requires.0 c.args.lines.now c.args.nodes.now c.args.roots.now l.lines l.nodes l.roots l.i S h
-            (omega (arith, c.requires.2.long_lines, l.invariant.1)) (omega (arith, c.requires.2.long_nodes, l.invariant.2)) (omega (arith, c.requires.2.long_roots, l.invariant.3)),
-      ),
-    )
+    let proof = c.args.proof.now in
+    let s = c.in-Some.ensures.steps in
+    let S : SoFar R F (split c.args.n (drop head_bytes proof)) (words_of c.args.tables.now) (words_of l.tables) c.in-Some.i = rw s.1 (l.invariant.so_far R F W) in
+    let t = record_taken proof _ _ _ c.args.n _ _ c.requires.records.1 l.invariant.few l.invariant.left s.0.1.0 (s.0.1.1 ∙ l.invariant.size) s.1 in
+    (s.0.1.1 ∙ l.invariant.size, (R, F, S.rows, words_of c.args.tables.now, rw c.rows.ensures (ready R F _ proof c.args.n W c.requires.records.0 _ _ c.in-Some.i S t.0)))
 
-pub returns-then-refusal-ne0 : goal.returns-then-refusal-ne0
-returns-then-refusal-ne0 c = λ R F W.
+pub returns-in_err-m-clause-ran : goal.returns-in_err-m-clause-ran
+returns-in_err-m-clause-ran c = λ R F W.
     let l = c.loop-i in
-    let h = c.loop-i-test.true in
-    let S = l.invariant.4 R F W in
-    so_far_stop R F _ c.args.clauses.now c.args.proof.now c.args.n W c.requires.0 c.args.lines.now c.args.nodes.now c.args.roots.now l.lines l.nodes l.roots l.i S h _
-    (record_part c.args.proof.now l.i)
-    c.make_line-m.result
-    (c.make_line-m.ensures R F S.rows c.args.lines.now c.args.nodes.now c.args.roots.now (ready R F _ c.args.clauses.now c.args.proof.now c.args.n W c.requires.0 c.args.lines.now c.args.nodes.now c.args.roots.now l.lines l.nodes l.roots l.i S h
-    (omega (arith, c.requires.2.long_lines, l.invariant.1)) (omega (arith, c.requires.2.long_nodes, l.invariant.2)) (omega (arith, c.requires.2.long_roots, l.invariant.3))))
-    _
-    c.if-refusal-ne0.true
-    refl
-    refl
-    refl
-
-pub put_line-requires : goal.put_line-requires
-put_line-requires c =
-    let l = c.loop-i in (
-      omega (arith, c.requires.0, c.loop-i-test.true),
-      omega (arith, c.requires.2.long_lines, l.invariant.1),
-      omega (arith, c.requires.2.long_nodes, l.invariant.2),
-      omega (arith, c.requires.2.long_roots, l.invariant.3),
-    )
-
-pub overflow_add-i-in-loop-i : goal.overflow_add-i-in-loop-i
-overflow_add-i-in-loop-i c =
-    omega (arith, c.requires.0, c.loop-i-test.true)
+    let proof = c.args.proof.now in
+    let s = c.in-Some.ensures.steps in
+    let S : SoFar R F (split c.args.n (drop head_bytes proof)) (words_of c.args.tables.now) (words_of l.tables) c.in-Some.i = rw s.1 (l.invariant.so_far R F W) in
+    let z = error_from c.make_line.result c.map_err.result _ c.map_err.ensures.cases _ c.in_err-m.was in
+    let y : (c.in_err-m.field-0.0 ≡ record { refusal = z.0.refusal; place = c.in-Some.i + 1; variable = z.0.variable }) = search (rules, z.2) in
+    let f : c.from_residual.result ≡ Err c.in_err-m.field-0.0 = search (rules, c.from_residual.ensures) in
+    let t = record_taken proof _ _ _ c.args.n _ _ c.requires.records.1 l.invariant.few l.invariant.left s.0.1.0 (s.0.1.1 ∙ l.invariant.size) s.1 in
+    rw (f, y) (so_far_stop R F _ proof c.args.n W c.requires.records.0 _ _ c.in-Some.i S t.0 _ t.1 z.0
+    (rw z.1 at (c.make_line.ensures R F S.rows (words_of c.args.tables.now) (rw c.rows.ensures (ready R F _ proof c.args.n W c.requires.records.0 _ _ c.in-Some.i S t.0)))))
 
 pub loop-i-preserved : goal.loop-i-preserved
 loop-i-preserved c =
     let l = c.loop-i in
-    let h = c.loop-i-test.true in
-    let m = c.make_line-m in
-    let p = c.put_line.ensures in (
-      omega arith,
-      search rules,
-      search rules,
-      search rules,
-      λ R F W.
-          let S = l.invariant.4 R F W in
-          so_far_more R F _ c.args.clauses.now c.args.proof.now c.args.n W c.requires.0 c.args.lines.now c.args.nodes.now c.args.roots.now l.lines l.nodes l.roots l.i S h _
-          (record_part c.args.proof.now l.i)
-          m.result
-          (m.ensures R F S.rows c.args.lines.now c.args.nodes.now c.args.roots.now (ready R F _ c.args.clauses.now c.args.proof.now c.args.n W c.requires.0 c.args.lines.now c.args.nodes.now c.args.roots.now l.lines l.nodes l.roots l.i S h
-          (omega (arith, c.requires.2.long_lines, l.invariant.1)) (omega (arith, c.requires.2.long_nodes, l.invariant.2)) (omega (arith, c.requires.2.long_roots, l.invariant.3))))
+    let s = c.in-Some.ensures.steps in
+    let proof = c.args.proof.now in
+    let t = record_taken proof _ _ _ c.args.n _ _ c.requires.records.1 l.invariant.few l.invariant.left s.0.1.0 (s.0.1.1 ∙ l.invariant.size) s.1 in
+    let next : c.next.new.self.count ≡ c.in-Some.i + 1 = s.2 ∙ ap (λ (k : ℕ). k + 1) (sym s.1) in
+    record {
+      same = search;
+      size = s.0.0 ∙ l.invariant.size;
+      few = omega (arith, next, t.0);
+      left = rw s.2 t.2;
+      so_far = λ R F W.
+          let S : SoFar R F (split c.args.n (drop head_bytes proof)) (words_of c.args.tables.now) (words_of l.tables) c.in-Some.i = rw s.1 (l.invariant.so_far R F W) in
+          let z = value_from c.make_line.result c.map_err.result _ c.map_err.ensures.cases _ c.in_ok-m.was in
+          rw next (so_far_more R F _ proof c.args.n W c.requires.records.0 _ _ c.in-Some.i S t.0 _ t.1 c.in_ok-m.m
+          (rw z at (c.make_line.ensures R F S.rows (words_of c.args.tables.now) (rw c.rows.ensures (ready R F _ proof c.args.n W c.requires.records.0 _ _ c.in-Some.i S t.0))))
           _
-          _
-          _
-          c.if-refusal-ne0.false
-          p.0
-          p.1
-          p.2,
-    )
+          c.put_line.ensures.words);
+    }
 
-pub returns : goal.returns
-returns c = λ R F W.
+pub returns-clause-ran : goal.returns-clause-ran
+returns-clause-ran c = λ R F W.
     let l = c.loop-i in
-    so_far_all R F _ c.args.clauses.now c.args.proof.now c.args.n W c.requires.0 c.args.lines.now c.args.nodes.now c.args.roots.now l.lines l.nodes l.roots l.i (l.invariant.4 R F W) c.loop-i-test.false _ refl
+    let proof = c.args.proof.now in
+    let body = drop 7 proof in
+    let end : c.args.n ≤ l.i-iterator.count =
+    omega (arith, c.in-None.ensures.steps.0.1.0, l.invariant.size, ap length l.invariant.left, length-drop (8 * l.i-iterator.count) (take (8 * c.args.n) body), length-take-le (8 * c.args.n) body (omega (arith, length-drop 7 proof, c.requires.records.1))) in
+    so_far_all R F _ proof c.args.n W c.requires.records.0 _ _ l.i-iterator.count (l.invariant.so_far R F W) end

@@ -1,13 +1,8 @@
--- `numbers::sized` meets its contract: from each place of the loop, with the size so far, the same number comes.
-use mathlib.Core.Path.{◌≡◌}
-use Prim.Native.Nat.{◌-◌, ◌≤◌}
-use lib.ListN.{length, drop}
+-- `numbers::sized` meets its contract: from each digit on, with the size so far, the same number comes.
+use Rattle.std.proofs.Common.{◌≡◌, ◌≤◌, drop}
 use Rattle.rules.specs.definitions.Limits.{number_most}
 use Rattle.rules.specs.definitions.Text.{sized}
 use Rattle.formula.proofs.numbers.sized.Given as goal
 
-abbrev pub invariant-loop-i : goal.invariant-loop-i
-invariant-loop-i l = (l.i ≤ length l.word) × (l.n ≤ number_most) × (sized l.negated l.n (drop l.i l.word) ≡ sized l.negated l.first (drop l.from l.word))
-
-abbrev pub decreases-loop-i : goal.decreases-loop-i
-decreases-loop-i l = length l.word - l.i
+abbrev pub invariant-loop-b : goal.invariant-loop-b
+invariant-loop-b l = (l.n ≤ number_most) × (sized l.negated l.n (drop l.b-index l.digits) ≡ sized l.negated l.first l.digits)

@@ -1,11 +1,11 @@
--- `reading::read_tokens` meets its contract: at each place of the loop the tables hold what is read so far, and the rest of the text gives what the whole gives.
-use Prim.Native.Nat.{◌-◌}
-use lib.ListN.{length}
+-- `reading::read_tokens` meets its contract: before each token the tables hold what is read so far, and the tokens left give what the whole gives.
+use Rattle.formula.specs.Tokens.{left}
+use Rattle.formula.specs.Tables.{SameFormulaTables}
 use Rattle.formula.proofs.ReadingLaws.{Held}
 use Rattle.formula.proofs.reading.read_tokens.Given as goal
 
-abbrev pub invariant-loop-at : goal.invariant-loop-at
-invariant-loop-at l = Held l.text l.from l.initial.prefix l.initial.clauses l.prefix l.clauses l.at l.s
-
-abbrev pub decreases-loop-at : goal.decreases-loop-at
-decreases-loop-at l = length l.text - l.at
+abbrev pub invariant-loop-token : goal.invariant-loop-token
+invariant-loop-token l = record {
+  held : Held l.n (left l.tokens) l.initial.tables.prefix.now l.initial.tables.clauses.now l.tables.prefix.now l.tables.clauses.now (left l.token-iterator) l.s;
+  same : SameFormulaTables l.initial.tables l.tables;
+}

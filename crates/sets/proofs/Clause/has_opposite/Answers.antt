@@ -3,10 +3,10 @@ use Rattle.rules.specs.definitions.Formula.{has_opposite}
 use Rattle.sets.specs.Values.{clause_of}
 use Rattle.sets.proofs.Clause.has_opposite.Goals as goal
 
-pub returns-then-negated : goal.returns-then-negated
+pub returns-then-l : goal.returns-then-l
 unfolding clause_of has_opposite
-returns-then-negated c = rw (c.if-negated.true, has_opposite) c.has.ensures
+returns-then-l c = rw (c.if-l.true, has_opposite) c.has.ensures
 
-pub returns : goal.returns
+pub returns-else-l : goal.returns-else-l
 unfolding clause_of has_opposite
-returns c = rw (c.if-negated.false, has_opposite) c.has-2.ensures
+returns-else-l c = rw (c.if-l.false, has_opposite) c.has-else-l.ensures

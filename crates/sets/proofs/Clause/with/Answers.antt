@@ -3,10 +3,10 @@ use Rattle.rules.specs.definitions.Formula.{with_literal}
 use Rattle.sets.specs.Values.{clause_of}
 use Rattle.sets.proofs.Clause.with.Goals as goal
 
-pub returns-then-negated : goal.returns-then-negated
+pub returns-then-l : goal.returns-then-l
 unfolding clause_of with_literal
-returns-then-negated c = rw (c.if-negated.true, with_literal, c.with.ensures)
+returns-then-l c = rw (c.if-l.true, with_literal, c.with.ensures)
 
-pub returns : goal.returns
+pub returns-else-l : goal.returns-else-l
 unfolding clause_of with_literal
-returns c = rw (c.if-negated.false, with_literal, c.with-2.ensures)
+returns-else-l c = rw (c.if-l.false, with_literal, c.with-else-l.ensures)

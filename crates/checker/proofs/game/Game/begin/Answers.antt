@@ -4,4 +4,4 @@ use Rattle.checker.proofs.Games.{none_bound}
 use Rattle.checker.proofs.game.Game.begin.Goals as goal
 
 pub returns : goal.returns
-returns c = record { count = refl; existential_set = refl; begun = λ Q. none_bound Q _ refl refl refl c.none-2.ensures }
+returns c = record { clauses = refl; count = refl; existential_set = refl; begun = λ Q. none_bound Q _ refl refl refl c.none-2.ensures }

@@ -1,5 +1,0 @@
--- `maps::follow`: the node number is the measure, since the walk goes on at a smaller one.
-use Rattle.maps.proofs.+follow.Given as goal
-
-abbrev pub decreases-follow : goal.decreases-follow
-decreases-follow l = l.at

@@ -1,0 +1,15 @@
+-- `report::text::Out::put_refused` meets its contract: its parts are put one behind the other.
+use Rattle.rules.specs.definitions.Bytes.{text}
+use Rattle.rules.specs.definitions.Report.{refused_line}
+use Rattle.report.proofs.Laws.{then}
+use Rattle.report.proofs.text.Out.put_refused.Goals as goal
+
+pub returns : goal.returns
+unfolding text refused_line
+returns c =
+    then (then c.put.ensures
+    (then c.put_decimal.ensures
+    (then c.put-2.ensures
+    (then c.put_decimal-2.ensures
+    (then c.put-3.ensures c.put_decimal-3.ensures)))))
+    c.put-4.ensures
