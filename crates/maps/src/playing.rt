@@ -17,9 +17,9 @@ impl Column<'_> {
     // The value that the walk from node `at` comes to under the settings, None where it is broken. It
     // goes on at smaller nodes alone, so that it ends.
     #[tactic(auto, using(crate::proofs::Plays::outcome_at, crate::proofs::Plays::outcome_noting))]
-    fn follow(self, at: u32, settings: Set) -> Option<Value>
+    fn follow(&self, at: u32, settings: Set) -> Option<Value>
         requires { Numbered at }
-        ensures { result ≡ outcome (walk (column_of self.entry) (has (set_of settings)) at) }
+        ensures { result ≡ outcome (walk (column_of self.now) (has (set_of settings)) at) }
     {
         match self.node(at) {
             Node::Leaf(v) => Some(v),
