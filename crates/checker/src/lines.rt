@@ -14,6 +14,8 @@ use rules::refusals::Fault;
 use rules::{Line, Resolution};
 
 // What the resolution r makes at line i, or the first of 24 to 31 that refuses it.
+// A call of its own: within `run` the row would be copied in parts of two widths, which takes a quarter more time.
+#[inline(never)]
 fn resolution_line(g: &Game<'_>, rows: ProofRows<'_>, r: Resolution, i: u32) -> Result<Made, Fault>
     requires { SomeReady g.now (rows_of rows) i }
     ensures { EachMakes g.now (rows_of rows.entry) i (λ R F done. line_made R F done i (L.Resolve r)) result }

@@ -27,8 +27,10 @@ pub fn run(g: &Game<'_>, proof: &[u8], n: usize, tables: &mut ProofTables) -> Re
     let records = &proof[HEAD_BYTES..HEAD_BYTES + RECORD_BYTES * n];
     for (i, record) in records.chunks_exact(RECORD_BYTES).enumerate() {
         let at = i as u32 + 1;
-        let m = make_line(g, record, tables.rows(), at).map_err(|fault| fault.at(at))?;
-        tables.put_line(i, m);
+        match make_line(g, record, tables.rows(), at) {
+            Ok(m) => tables.put_line(i, &m),
+            Err(fault) => return Err(fault.at(at)),
+        }
     }
     Ok(())
 }

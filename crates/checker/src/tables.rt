@@ -50,9 +50,9 @@ impl ProofTables<'_> {
 
     // Row i of each table, counted from 0, becomes the line's, and nothing else changes.
     #[tactic(auto, unfolding(rules::specs::definitions::Layout::set_words, rules::specs::definitions::Layout::line_words, rules::specs::definitions::Layout::map_words))]
-    pub(crate) fn put_line(&mut self, i: usize, m: Made)
+    pub(crate) fn put_line(&mut self, i: usize, m: &Made)
         requires { i < lines_most }
-        ensures words { words_of self.new ≡ with_line i m (words_of self.old) }
+        ensures words { words_of self.new ≡ with_line i m.now (words_of self.old) }
         ensures same { SameProofTables self.old self.new }
     {
         let s = i * Clause::words();

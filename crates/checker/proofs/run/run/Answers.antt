@@ -1,10 +1,9 @@
 -- `run::run` meets its contract. The invariant: after i lines their rows stand in the tables, and the run from the start is the run of the records left (Runs).
-use Rattle.std.proofs.Common.{◌≡◌, ◌≤◌, ◌+◌, ◌*◌, ◌-◌, drop, take, length, ℕ, Err, refl, ap, sym, ◌∙◌, rules, arith}
+use Rattle.std.proofs.Common.{◌≡◌, ◌≤◌, ◌+◌, ◌*◌, ◌-◌, drop, take, length, ℕ, refl, ap, sym, ◌∙◌, rules, arith}
 use lib.Seq.{length-take-le}
 use lib.ListN.{length-drop}
 use Rattle.rules.specs.definitions.Layout.{head_bytes}
 use Rattle.rules.specs.definitions.File.{split}
-use Rattle.checker.proofs.Faulted.{error_from, value_from}
 use Rattle.checker.specs.Tables.{words_of}
 use Rattle.checker.specs.Runs.{SoFar}
 use Rattle.checker.proofs.Runs.{so_far_none, ready, record_taken, so_far_stop, so_far_more, so_far_all}
@@ -35,18 +34,15 @@ make_line-requires c =
     let t = record_taken proof _ _ _ c.args.n _ _ c.requires.records.1 l.invariant.few l.invariant.left s.0.1.0 (s.0.1.1 ∙ l.invariant.size) s.1 in
     (s.0.1.1 ∙ l.invariant.size, (R, F, S.rows, words_of c.args.tables.now, rw c.rows.ensures (ready R F _ proof c.args.n W c.requires.records.0 _ _ c.in-Some.i S t.0)))
 
-pub returns-in_err-m-clause-ran : goal.returns-in_err-m-clause-ran
-returns-in_err-m-clause-ran c = λ R F W.
+pub returns-in-Err-clause-ran : goal.returns-in-Err-clause-ran
+returns-in-Err-clause-ran c = λ R F W.
     let l = c.loop-i in
     let proof = c.args.proof.now in
     let s = c.in-Some.ensures.steps in
     let S : SoFar R F (split c.args.n (drop head_bytes proof)) (words_of c.args.tables.now) (words_of l.tables) c.in-Some.i = rw s.1 (l.invariant.so_far R F W) in
-    let z = error_from c.make_line.result c.map_err.result _ c.map_err.ensures.cases _ c.in_err-m.was in
-    let y : (c.in_err-m.field-0.0 ≡ record { refusal = z.0.refusal; place = c.in-Some.i + 1; variable = z.0.variable }) = search (rules, z.2) in
-    let f : c.from_residual.result ≡ Err c.in_err-m.field-0.0 = search (rules, c.from_residual.ensures) in
     let t = record_taken proof _ _ _ c.args.n _ _ c.requires.records.1 l.invariant.few l.invariant.left s.0.1.0 (s.0.1.1 ∙ l.invariant.size) s.1 in
-    rw (f, y) (so_far_stop R F _ proof c.args.n W c.requires.records.0 _ _ c.in-Some.i S t.0 _ t.1 z.0
-    (rw z.1 at (c.make_line.ensures R F S.rows (words_of c.args.tables.now) (rw c.rows.ensures (ready R F _ proof c.args.n W c.requires.records.0 _ _ c.in-Some.i S t.0)))))
+    rw c.at.ensures (so_far_stop R F _ proof c.args.n W c.requires.records.0 _ _ c.in-Some.i S t.0 _ t.1 c.in-Err.fault
+    (c.in-Err.ensures R F S.rows (words_of c.args.tables.now) (rw c.rows.ensures (ready R F _ proof c.args.n W c.requires.records.0 _ _ c.in-Some.i S t.0))))
 
 pub loop-i-preserved : goal.loop-i-preserved
 loop-i-preserved c =
@@ -62,9 +58,8 @@ loop-i-preserved c =
       left = rw s.2 t.2;
       so_far = λ R F W.
           let S : SoFar R F (split c.args.n (drop head_bytes proof)) (words_of c.args.tables.now) (words_of l.tables) c.in-Some.i = rw s.1 (l.invariant.so_far R F W) in
-          let z = value_from c.make_line.result c.map_err.result _ c.map_err.ensures.cases _ c.in_ok-m.was in
-          rw next (so_far_more R F _ proof c.args.n W c.requires.records.0 _ _ c.in-Some.i S t.0 _ t.1 c.in_ok-m.m
-          (rw z at (c.make_line.ensures R F S.rows (words_of c.args.tables.now) (rw c.rows.ensures (ready R F _ proof c.args.n W c.requires.records.0 _ _ c.in-Some.i S t.0))))
+          rw next (so_far_more R F _ proof c.args.n W c.requires.records.0 _ _ c.in-Some.i S t.0 _ t.1 c.in-Ok.m
+          (c.in-Ok.ensures R F S.rows (words_of c.args.tables.now) (rw c.rows.ensures (ready R F _ proof c.args.n W c.requires.records.0 _ _ c.in-Some.i S t.0)))
           _
           c.put_line.ensures.words);
     }
