@@ -48,8 +48,8 @@ fn answer(text: &[u8], proof: &[u8]) -> Reply {
 
 // The reply, and what is printed.
 fn checked(rt: &HostRuntime, name: &str, text: &[u8], proof: &[u8]) -> io::Result<()> {
-    line(rt, name, answer(text, proof))?;
     let mut room = report::room();
+    line(rt, name, answer(text, proof))?;
     io::writer(rt).write_all(report::of(text, proof, &mut room))
 }
 
