@@ -84,6 +84,11 @@ MakesMaps passes es (Err e) = ⊥
 MakesMaps (fails n v) es (Ok m) = ⊥
 MakesMaps (fails n v) es (Err e) = (refusal_number e.refusal ≡ n) × (e.variable ≡ v)
 
+-- the row that was lent, where no universal refuses
+abbrev pub row_made : Result Unit Fault → MapRow → Result MapRow Fault
+row_made (Ok u) m = Ok m
+row_made (Err e) m = Err e
+
 -- what all universals get
 abbrev pub AllGet : Rules → Formula → List Row → Resolution → ℕ → Result MapRow Fault → Type 0
 AllGet R F rows r i m = MakesMaps (first_of (map_faults R F rows r (in_set r.merge))) (each (map_entry R rows i r (in_set r.merge)) (universals F.prefix) 0) m

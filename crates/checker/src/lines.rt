@@ -8,20 +8,20 @@ ghost use Rattle.checker.specs.Makes.{SomeReady, EachMakes};
 
 use crate::axioms::Made;
 use crate::game::Game;
+use crate::rows::MapRow;
 use crate::tables::ProofRows;
 use crate::{axioms, maps_row, resolutions};
 use rules::refusals::Fault;
 use rules::{Line, Resolution};
 
 // What the resolution r makes at line i, or the first of 24 to 31 that refuses it.
-// A call of its own: within `run` the row would be copied in parts of two widths, which takes a quarter more time.
-#[inline(never)]
 fn resolution_line(g: &Game<'_>, rows: ProofRows<'_>, r: Resolution, i: u32) -> Result<Made, Fault>
     requires { SomeReady g.now (rows_of rows) i }
     ensures { EachMakes g.now (rows_of rows.entry) i (λ R F done. line_made R F done i (L.Resolve r)) result }
 {
     let clause = resolutions::join_parents(g.existentials, g.universal_count, rows.lines, r, i)?;
-    let row = maps_row::resolution_maps(g, rows.nodes, rows.roots, r, i)?;
+    let mut row = MapRow::none();
+    maps_row::resolution_maps(g, rows.nodes, rows.roots, r, i, &mut row)?;
     Ok(Made { clause, row })
 }
 

@@ -21,6 +21,7 @@ ghost use Rattle.checker.specs.MapRows.{
   Keeps,
   Gets,
   AllGet,
+  row_made,
 };
 
 use crate::game::Game;
@@ -103,8 +104,8 @@ fn map_entry(
     select_entry(Column { nodes, index: j }, a, b)
 }
 
-// The maps of the resolution at line i: the row of nodes and roots, or the first 30 or 31 with its
-// variable.
+// The maps of the resolution at line i, into the row that is lent: a node and a root for each universal; or the first 30 or 31
+// with its universal's variable. The row is lent, since a Result of it would be copied in parts.
 // Kept: the node and the root table alone, since ProofRows would ask a caller for the line table too.
 pub fn resolution_maps(
     g: &Game<'_>,
@@ -112,14 +113,13 @@ pub fn resolution_maps(
     roots: &[u32],
     r: Resolution,
     i: u32,
-) -> Result<MapRow, Fault>
+    row: &mut MapRow,
+) -> Result<(), Fault>
     requires { SomeResolving (λ R F. GameOf R F g.now) nodes.now roots.now r i }
-    ensures { EachResolving (λ R F. GameOf R F g.now) nodes.now roots.now r i (λ R F rows. AllGet R F rows r i result) }
+    ensures { EachResolving (λ R F. GameOf R F g.now) nodes.now roots.now r i (λ R F rows. AllGet R F rows r i (row_made result row.new)) }
 {
-    let mut row = MapRow {
-        nodes: [0; ROW_WORDS],
-        roots: [0; ROW_WORDS],
-    };
+    row.nodes = [0; ROW_WORDS];
+    row.roots = [0; ROW_WORDS];
     for (j, u) in g.universals[..g.universal_count as usize]
         .iter()
         .enumerate()
@@ -128,5 +128,5 @@ pub fn resolution_maps(
         row.nodes[j] = e.node;
         row.roots[j] = e.root;
     }
-    Ok(row)
+    Ok(())
 }

@@ -1,5 +1,5 @@
 // A line's row in the tables: its clause, and a node word and a root for each universal.
-ghost use Rattle.std.specs.Prelude.{◌≡◌, ◌*◌, ◌≤◌, length};
+ghost use Rattle.std.specs.Prelude.{◌≡◌, ◌*◌, ◌≤◌, length, replicate};
 ghost use Rattle.rules.specs.definitions.Layout.{set_words};
 ghost use Rattle.rules.specs.definitions.Limits.{universals_most};
 ghost use Rattle.sets.specs.Values.{clause_of};
@@ -14,6 +14,18 @@ use sets::Clause;
 pub struct MapRow {
     pub nodes: [u32; ROW_WORDS],
     pub roots: [u32; ROW_WORDS],
+}
+
+impl MapRow {
+    // The row with no node and no root.
+    pub(crate) fn none() -> MapRow
+        ensures { result ≡ record { nodes = replicate universals_most 0; roots = replicate universals_most 0 } }
+    {
+        MapRow {
+            nodes: [0; ROW_WORDS],
+            roots: [0; ROW_WORDS],
+        }
+    }
 }
 
 // The row of nodes and the row of roots that are lent become those of `row`.

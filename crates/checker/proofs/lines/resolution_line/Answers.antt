@@ -14,13 +14,13 @@ resolution_maps-requires c =
     let J = joined_line R F rows _ lent _ _ S c.args.r _ c.in_ok-clause.ensures in
     (R, F, rows, lent.nodes, lent.roots, S.whole.game, resolving R F rows _ lent _ _ S c.args.r J.0)
 
-pub returns-in_err-row : goal.returns-in_err-row
-returns-in_err-row c = λ R F rows lent S.
+pub returns-in_err-resolution_maps : goal.returns-in_err-resolution_maps
+returns-in_err-resolution_maps c = λ R F rows lent S.
     let J = joined_line R F rows _ lent _ _ S c.args.r _ c.in_ok-clause.ensures in
-    let f : c.from_residual-in_err-row.result ≡ Err c.in_err-row.field-0.0 = search (rules, c.from_residual-in_err-row.ensures) in
-    rw f (unmapped_line R F rows _ lent _ _ S c.args.r J.0 _ (c.in_err-row.ensures R F rows lent.nodes lent.roots S.whole.game (resolving R F rows _ lent _ _ S c.args.r J.0)))
+    let f : c.from_residual-in_err-resolution_maps.result ≡ Err c.in_err-resolution_maps.field-0.0 = search (rules, c.from_residual-in_err-resolution_maps.ensures) in
+    rw f (unmapped_line R F rows _ lent _ _ S c.args.r J.0 _ (c.in_err-resolution_maps.ensures R F rows lent.nodes lent.roots S.whole.game (resolving R F rows _ lent _ _ S c.args.r J.0)))
 
 pub returns : goal.returns
 returns c = λ R F rows lent S.
     let J = joined_line R F rows _ lent _ _ S c.args.r _ c.in_ok-clause.ensures in
-    mapped_line R F rows _ lent _ _ S c.args.r J.0 _ _ J.1 (c.in_ok-row.ensures R F rows lent.nodes lent.roots S.whole.game (resolving R F rows _ lent _ _ S c.args.r J.0))
+    mapped_line R F rows _ lent _ _ S c.args.r J.0 _ _ J.1 (c.in_ok-resolution_maps.ensures R F rows lent.nodes lent.roots S.whole.game (resolving R F rows _ lent _ _ S c.args.r J.0))
